@@ -1,0 +1,41 @@
+-- What the small tests of the reader and the writer rest on.
+-- Assumes nothing.
+use Prim.Native.Nat.{ℕ}
+use mathlib.Core.Path.{_≡_, refl, sym, ap, _∙_}
+use mathlib.Core.Bool.{Bool, true, false, not}
+use mathlib.Core.List.{[], _∷_}
+use lib.Dec.{T, eqb, ltb, leb}
+use types.Run.{OneOf}
+use denote.Enum.Declared.{tagOf}
+use borrow.Author.Tests.{eq-eqb, ne-eqb, lt-ltb, le-ltb, leb-true, leb-false}
+use Rattle.units.proofs.Arms.{keys}
+use Rattle.meaning.specs.declared.table.Kind.{Kind}
+use Rattle.meaning.proofs.table.Kind.{the-type}
+use Rattle.meaning.specs.declared.table.Kind.the-variants.{Plaque, Continuous, ResetReader, Gateway, Unknown}
+use Rattle.meaning.specs.declared.table.OnPlaque.{OnPlaque}
+use Rattle.meaning.specs.declared.table.OfGateway.{OfGateway}
+
+-- a test `!=` on a call's result, said of what the result is
+pub differs : {r x : ℕ} (k : ℕ) → r ≡ x → (r ≡ k → ⊥) → not (eqb x k) ≡ true
+differs {r} {x} k e d = ap not (ne-eqb x k (λ q. d (e ∙ q)))
+
+pub agrees : {r x : ℕ} (k : ℕ) → r ≡ x → r ≡ k → not (eqb x k) ≡ false
+agrees {r} {x} k e f = ap not (eq-eqb x k (sym e ∙ f))
+
+-- the code says `high < value` where the definition denies `value ≤ high`
+pub ltb-not-leb : (a b : ℕ) → ltb a b ≡ not (leb b a)
+ltb-not-leb a b = by (leb b a) refl
+  where
+    by : (t : Bool) → leb b a ≡ t → ltb a b ≡ not t
+    by true e = le-ltb a b (leb-true b a e)
+    by false e = lt-ltb a b (leb-false b a e)
+
+-- the arm `_` beside Kind::Continuous
+pub not-continuous : (P : Kind → Type 0) (k : Kind) → OneOf (0 ∷ 2 ∷ 3 ∷ 4 ∷ []) (tagOf the-type k)
+    → ((p : OnPlaque) → P (Plaque p)) → P ResetReader → ((g : OfGateway) → P (Gateway g)) → P Unknown → P k
+not-continuous P (Plaque p) e a b g d = a p
+not-continuous P Continuous e a b g d =
+    absurd (keys (λ (x : ℕ). T (not (eqb x 1))) (0 ∷ 2 ∷ 3 ∷ 4 ∷ []) 1 e (tt, (tt, (tt, (tt, tt)))))
+not-continuous P ResetReader e a b g d = b
+not-continuous P (Gateway p) e a b g d = g p
+not-continuous P Unknown e a b g d = d

@@ -1,0 +1,34 @@
+-- What is known of a command that is written: its words' count, and that they fit.
+-- Assumes nothing.
+use Prim.Native.Nat.{ℕ, _≤_}
+use mathlib.Core.Path.{_≡_, sym, ap, subst}
+use mathlib.Core.List.{List, _++_}
+use lib.ListN.{length, drop}
+use native.Mathlib.Omega.{arith}
+use Rattle.units.specs.declared.Form.{Form}
+use Rattle.meaning.specs.Bench.{Bench}
+use Rattle.meaning.specs.Table.{rowOf, carries, carried}
+use Rattle.meaning.specs.Command.{commandWords, headedCount, writeRefusal}
+use Rattle.meaning.specs.declared.table.Load.{Load}
+use Rattle.meaning.specs.declared.table.Load.the-variants.{Nothing, One, Size}
+use Rattle.meaning.specs.declared.packet.Command.{Command}
+use Rattle.meaning.proofs.CommandLaws as L
+use Rattle.meaning.proofs.CommandLaws.{count-words}
+
+-- what stays behind the words, counted by the data
+pub behind : (f : Form) (m : Command) (bs out : List ℕ)
+    → commandWords f m bs ++ drop (headedCount f (length bs)) out ≡ commandWords f m bs ++ drop (length (commandWords f m bs)) out
+behind f m bs out = ap (λ (k : ℕ). commandWords f m bs ++ drop k out) (sym (count-words f m bs))
+
+-- a word says how much a command carries, so it is never more than a word can say
+carries-le : (l : Load) (n : ℕ) → n ≤ 65535 → carries l n ≤ 65535
+unfolding carries
+carries-le Nothing n h = omega arith
+carries-le One n h = omega arith
+carries-le Size n h = h
+
+pub writable : (b : Bench) (f : Form) (m : Command) (n room : ℕ) → m .size ≤ 65535 → writeRefusal b f m n room ≡ 0 → (headedCount f n ≤ room) × (n ≤ 65535)
+unfolding carried
+writable b f m n room h e =
+    let w = L.writable b f m n room e in
+    (w .fits, subst (λ (x : ℕ). x ≤ 65535) (sym (w .load)) (carries-le (rowOf b (m .command) .load) (m .size) h))

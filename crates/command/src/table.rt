@@ -1,0 +1,124 @@
+// The table of commands: the command byte decides what a packet carries, its words' limits, and its effect.
+use meaning::packet::Command;
+use meaning::table::Kind;
+use meaning::table::Limits;
+use meaning::table::Load;
+use meaning::table::OfGateway;
+use meaning::table::OnPlaque;
+use meaning::table::REGION;
+use meaning::table::Row;
+use units::Bytes;
+ghost use mathlib.Core.Path.{_≡_};
+ghost use Rattle.meaning.specs.Bench.{full};
+ghost use Rattle.meaning.specs.Table.{_to_, rowOf, suits, carries, carried};
+
+fn limits(low: u16, high: u16) -> Limits
+    ensures { λ r. ⌜ r ≡ low to high ⌝ }
+{
+    Limits { low, high }
+}
+
+fn kind_of(command: u8) -> Kind
+    ensures { λ r. ⌜ r ≡ rowOf full command .kind ⌝ }
+{
+    match command {
+        0x04 => Kind::Plaque(OnPlaque::Fill),
+        0x05 => Kind::Plaque(OnPlaque::Read),
+        0x06 => Kind::Plaque(OnPlaque::Write),
+        0x07 => Kind::Plaque(OnPlaque::ReadId),
+        0x08 => Kind::Plaque(OnPlaque::Search),
+        0x0D => Kind::Continuous,
+        0x54 => Kind::ResetReader,
+        0x11 => Kind::Gateway(OfGateway::GetName),
+        0x21 => Kind::Gateway(OfGateway::SetName),
+        0x60 => Kind::Gateway(OfGateway::Initialise),
+        0x61 => Kind::Gateway(OfGateway::ResetGateway),
+        0x79 => Kind::Gateway(OfGateway::Clear),
+        _ => Kind::Unknown,
+    }
+}
+
+fn load_of(command: u8) -> Load
+    ensures { λ r. ⌜ r ≡ rowOf full command .load ⌝ }
+{
+    match command {
+        0x04 => Load::One,
+        0x06 | 0x21 => Load::Size,
+        _ => Load::Nothing,
+    }
+}
+
+// Word 04: a timeout, a delay, or unused.
+fn word4_of(command: u8) -> Limits
+    ensures { λ r. ⌜ r ≡ rowOf full command .word4 ⌝ }
+{
+    match command {
+        0x04..=0x08 => limits(1, 65534),
+        0x0D => limits(0, 60),
+        _ => limits(0, 0),
+    }
+}
+
+fn start_of(command: u8) -> Limits
+    ensures { λ r. ⌜ r ≡ rowOf full command .start ⌝ }
+{
+    match command {
+        0x04..=0x06 | 0x0D => limits(0, 65535),
+        _ => limits(0, 0),
+    }
+}
+
+fn size_of(command: u8) -> Limits
+    ensures { λ r. ⌜ r ≡ rowOf full command .size ⌝ }
+{
+    match command {
+        0x04 => limits(1, REGION),
+        0x05..=0x06 => limits(1, 255),
+        0x0D => limits(0, 255),
+        0x21 => limits(1, 64),
+        _ => limits(0, 0),
+    }
+}
+
+pub fn row_of(command: u8) -> Row
+    ensures { λ r. ⌜ r ≡ rowOf full command ⌝ }
+{
+    Row {
+        kind: kind_of(command),
+        load: load_of(command),
+        word4: word4_of(command),
+        start: start_of(command),
+        size: size_of(command),
+    }
+}
+
+// Whether a command of this kind is for this node, one of the allowed.
+pub fn suits(kind: Kind, node: u8) -> bool
+    ensures { λ r. ⌜ r ≡ suits kind node ⌝ }
+{
+    match kind {
+        Kind::Plaque(_) => node != 32,
+        Kind::Continuous => node != 32,
+        Kind::ResetReader => node != 32,
+        Kind::Gateway(_) => node == 32,
+        Kind::Unknown => false,
+    }
+}
+
+fn carries(load: Load, size: u16) -> Bytes
+    ensures { λ r. ⌜ r .0 ≡ carries load size ⌝ }
+{
+    match load {
+        Load::Nothing => Bytes(0),
+        Load::One => Bytes(1),
+        Load::Size => Bytes(size as usize),
+    }
+}
+
+// The data that a command carries.
+pub fn carried(row: Row, m: Command) -> Bytes
+    ensures { λ r. ⌜ r .0 ≡ carried row m ⌝ }
+{
+    let load = row.load;
+    carries(load, m.size)
+}

@@ -1,0 +1,3 @@
+// Response packets: the reader, the writer.
+pub mod reader;
+pub mod writer;

@@ -1,0 +1,132 @@
+-- Laws of writing: one text after another, how long a text is, and the turns of the loops.
+-- Assumes nothing.
+use Prim.Native.Nat.{ℕ, zero, suc, _+_, _*_, _/_, _%_, _^_, _≤_, _<_}
+use mathlib.Core.Path.{_≡_, refl, sym, ap, subst, _∙_}
+use mathlib.Core.List.{List, [], _∷_, _++_, append-assoc}
+use mathlib.Core.Bool.{true, cond}
+use native.Mathlib.Omega.{arith}
+use native.Mathlib.Numerals.{add-one}
+use native.Mathlib.Decide.{ℕ-discrete}
+use native.Mathlib.Nat.{pow-succ'}
+use lib.ListN.{length, getD, drop, set, length-append, length-drop}
+use lib.Seq.{sets, length-sets, drop-cons}
+use lib.Dec.{ltb, eqb}
+use borrow.Author.Tests.{lt-ltb, le-ltb, eq-eqb, ne-eqb}
+use Rattle.units.proofs.Choice.{yes-cond, no-cond}
+use Rattle.text.specs.Text.{Put, hexOf, byteHexOf, bytesHexOf, decimalWithin, decimalOf, afterWord, wordsLine}
+
+sets-append : (l : List ℕ) (i : ℕ) (vs ws : List ℕ) → sets l i (vs ++ ws) ≡ sets (sets l i vs) (i + length vs) ws
+sets-append l i [] ws = ap (λ (k : ℕ). sets l k ws) (omega arith)
+sets-append l i (v ∷ vs) ws =
+    sets-append (set l i v) (suc i) vs ws
+    ∙ ap (λ (k : ℕ). sets (sets (set l i v) (suc i) vs) k ws) (omega arith)
+
+-- what is still to be written after a text gives the whole
+put-rest : {o o₁ t : List ℕ} {at r : ℕ} (rest : List ℕ) → Put o at t o₁ r → sets o₁ r rest ≡ sets o at (t ++ rest)
+put-rest {o} {o₁} {t} {at} {r} rest p =
+    ap (λ (x : List ℕ). sets x r rest) (p .wrote)
+    ∙ ap (λ (k : ℕ). sets (sets o at t) k rest) (p .next)
+    ∙ sym (sets-append o at t rest)
+
+-- a turn of a loop: after a text the rest is still to be written
+pub put-turn : {o o₁ t whole : List ℕ} {to r : ℕ} (left rest : List ℕ) → Put o to t o₁ r → left ≡ t ++ rest → sets o to left ≡ whole → sets o₁ r rest ≡ whole
+put-turn {o} {o₁} {t} {whole} {to} left rest p e w = put-rest rest p ∙ ap (sets o to) (sym e) ∙ w
+
+-- the loop's end: nothing is left
+pub put-done : {o₀ o whole : List ℕ} {at to : ℕ} (left : List ℕ) → to ≡ at + length whole → left ≡ [] → sets o to left ≡ sets o₀ at whole → Put o₀ at whole o to
+put-done {o₀} {o} {whole} {at} {to} left n e w = record { next = n; wrote = sym (ap (sets o to) e) ∙ w }
+
+-- one text after another
+pub put-then : {o o₁ o₂ t u : List ℕ} {at r₁ r₂ : ℕ} → Put o at t o₁ r₁ → Put o₁ r₁ u o₂ r₂ → Put o at (t ++ u) o₂ r₂
+put-then {o} {o₁} {o₂} {t} {u} p q = record {
+  next = q .next ∙ omega (arith, p .next, length-append t u);
+  wrote = q .wrote ∙ put-rest u p;
+}
+
+pub put-length : {o n t : List ℕ} {at r : ℕ} → Put o at t n r → length n ≡ length o
+put-length p = ap length (p .wrote) ∙ simp length-sets
+
+-- the same text by another name
+pub put-as : {o n t u : List ℕ} {at r : ℕ} → t ≡ u → Put o at t n r → Put o at u n r
+put-as {o} {n} {t} {u} {at} {r} e p = subst (λ (x : List ℕ). Put o at x n r) e p
+
+-- lengths
+pub length-hex : (w : ℕ) → length (hexOf w) ≡ 4
+unfolding hexOf
+length-hex w = refl
+
+pub length-byte-hex : (b : ℕ) → length (byteHexOf b) ≡ 2
+unfolding byteHexOf
+length-byte-hex b = refl
+
+pub length-bytes : (bs : List ℕ) → length (bytesHexOf bs) ≡ 2 * length bs
+unfolding bytesHexOf
+length-bytes [] = refl
+length-bytes (b ∷ bs) = simp length-append (omega (arith, length-byte-hex b, length-bytes bs))
+
+pub length-words : (ws : List ℕ) → length (wordsLine ws) ≡ 5 * length ws
+unfolding wordsLine
+length-words [] = refl
+length-words (w ∷ ws) = simp length-append (omega (arith, length-hex w, length-words ws))
+
+-- decimals: one digit; and the digits before the last, then the last
+pub decimal-one : (n : ℕ) → n < 10 → decimalOf n ≡ (48 + n) ∷ []
+unfolding decimalOf decimalWithin
+decimal-one zero h = refl
+decimal-one (suc n) h = yes-cond _ (lt-ltb (suc n) 10 h)
+
+-- a bound that suffices says no more than another
+within-enough : (j k n : ℕ) → n ≤ j → n ≤ k → decimalWithin j n ≡ decimalWithin k n
+unfolding decimalWithin
+within-enough zero zero n h g = refl
+within-enough zero (suc k) n h g = sym (yes-cond _ (lt-ltb n 10 (omega arith)))
+within-enough (suc j) zero n h g = yes-cond _ (lt-ltb n 10 (omega arith))
+within-enough (suc j) (suc k) n h g =
+    elim (ℕ-discrete (n / 10) 0) [
+      | yes e ↦ let l : ltb n 10 ≡ true = lt-ltb n 10 (omega arith) in yes-cond _ l ∙ sym (yes-cond _ l)
+      | no d ↦
+          ap (λ (x : List ℕ). cond (ltb n 10) ((48 + n) ∷ []) (x ++ ((48 + n % 10) ∷ []))) (within-enough j k (n / 10) (omega arith) (omega arith))
+    ]
+
+pub decimal-more : (n : ℕ) → 10 ≤ n → decimalOf n ≡ decimalOf (n / 10) ++ ((48 + n % 10) ∷ [])
+unfolding decimalOf decimalWithin
+decimal-more zero h = absurd (omega arith)
+decimal-more (suc n) h =
+    no-cond _ (le-ltb (suc n) 10 h)
+    ∙ ap (λ (x : List ℕ). x ++ ((48 + suc n % 10) ∷ [])) (within-enough n (suc n / 10) (suc n / 10) (omega arith) (omega arith))
+
+-- a number below 10 ^ (k + 1) has at most k + 1 digits
+pub decimal-short : (k n : ℕ) → n < 10 ^ suc k → length (decimalOf n) ≤ suc k
+decimal-short zero n h = omega (arith, ap length (decimal-one n (omega arith)))
+decimal-short (suc k) n h =
+    elim (ℕ-discrete (n / 10) 0) [
+      | yes e ↦ omega (arith, ap length (decimal-one n (omega arith)))
+      | no d ↦
+          let s = decimal-short k (n / 10) (omega (arith, pow-succ' 10 (suc k))) in
+          rw (decimal-more n (omega arith)) (simp length-append (omega arith))
+    ]
+
+-- the turns of the loops: the text of what is left is that of its first element, then that of the rest
+pub text-next : (xs : List ℕ) (i : ℕ) → i < length xs → drop i xs ≡ getD xs i 0 ∷ drop (i + 1) xs
+text-next xs i h = rw (add-one i) (drop-cons xs i 0 h)
+
+pub bytes-next : (bs : List ℕ) (i : ℕ) → i < length bs → bytesHexOf (drop i bs) ≡ byteHexOf (getD bs i 0) ++ bytesHexOf (drop (i + 1) bs)
+unfolding bytesHexOf
+bytes-next bs i h = ap bytesHexOf (text-next bs i h)
+
+after-is : (ws : List ℕ) (i n : ℕ) → i < n → length ws + i ≡ n → cond (eqb (i + 1) n) 10 32 ≡ afterWord (drop 1 ws)
+after-is [] i n h e = absurd (omega arith)
+after-is (w ∷ []) i n h e = yes-cond 32 (eq-eqb (i + 1) n (omega arith))
+after-is (w ∷ v ∷ ws) i n h e = no-cond 10 (ne-eqb (i + 1) n (λ q. omega arith))
+
+after-word : (ws : List ℕ) (i : ℕ) → i < length ws → cond (eqb (i + 1) (length ws)) 10 32 ≡ afterWord (drop (i + 1) ws)
+after-word ws i h =
+    after-is (drop i ws) i (length ws) h (omega (arith, length-drop i ws))
+    ∙ ap (λ (x : List ℕ). afterWord (drop 1 x)) (text-next ws i h)
+
+pub words-next : (ws : List ℕ) (i : ℕ) → i < length ws
+    → wordsLine (drop i ws) ≡ (hexOf (getD ws i 0) ++ (cond (eqb (i + 1) (length ws)) 10 32 ∷ [])) ++ wordsLine (drop (i + 1) ws)
+unfolding wordsLine
+words-next ws i h =
+    ap wordsLine (text-next ws i h)
+    ∙ rw (append-assoc (hexOf (getD ws i 0)), after-word ws i h)
