@@ -1,0 +1,11 @@
+pub mod Lowest
+pub mod Room
+pub mod Aim
+pub mod Alone
+pub mod Local
+pub mod Numbers
+pub mod Third
+pub mod Counted
+pub mod Swept
+pub mod History
+pub mod Answers

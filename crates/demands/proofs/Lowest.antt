@@ -1,0 +1,182 @@
+-- "The lowest number that applies is given, but a response being read is checked in the order 4, 5, 6, 7, 9, 3, 10, 11."
+-- `refusal` gives the number of the first doubt that applies; the numbers of every other list of doubts never fall, so the first is the lowest.
+-- Assumes nothing.
+use Prim.Native.Nat.{ℕ, _≤_}
+use mathlib.Core.Path.{_≡_, refl}
+use mathlib.Core.Bool.{Bool, true, false, _&&_, cond}
+use mathlib.Core.List.{List, [], _∷_, _++_}
+use native.Mathlib.Omega.{arith}
+use native.Mathlib.Nat.{le-refl}
+use lib.Dec.{eqb, leb}
+use borrow.Author.Tests.{leb-true, le-leb, ne-eqb}
+use Rattle.units.specs.declared.Form.{Form}
+use Rattle.units.proofs.Choice.{and-true}
+use Rattle.meaning.specs.Refusal.{Doubts, _when_, _at_when_, _orElse_, refusal}
+use Rattle.meaning.specs.Bench.{Bench}
+use Rattle.meaning.specs.Table.{rowOf}
+use Rattle.meaning.specs.Command.{frameDoubts, whoDoubts, limitDoubts, unusedDoubts, rowDoubts, commandDoubts, writerDoubts}
+use Rattle.meaning.specs.Response.{originDoubts, contentDoubts, responseDoubts, responderDoubts}
+use Rattle.meaning.specs.declared.packet.Command.{Command}
+use Rattle.meaning.specs.declared.packet.Response.{Response}
+use Rattle.meaning.specs.Call.{Call, command, check, arrive, leave, collect, acknowledge, asked, judged}
+
+-- a doubt: its number, and whether it applies
+pub record Doubt : Type 0 where
+  pub number : ℕ
+  pub applies : Bool
+
+-- those of a chain, from left to right, and their numbers
+unfoldable pub doubts : Doubts → List Doubt
+doubts (n when t) = record { number = n; applies = t } ∷ []
+doubts (n at k when t) = record { number = n; applies = t } ∷ []
+doubts (ds orElse es) = doubts ds ++ doubts es
+
+unfoldable pub numbers : List Doubt → List ℕ
+numbers [] = []
+numbers (d ∷ ds) = d .number ∷ numbers ds
+
+-- the numbers are k or more, and never fall
+unfoldable pub rise : ℕ → List ℕ → Bool
+rise k [] = true
+rise k (n ∷ ns) = leb k n && rise n ns
+
+unfoldable pub positive : List ℕ → Bool
+positive [] = true
+positive (n ∷ ns) = leb 1 n && positive ns
+
+-- a number that stands there several times in a row, only once
+unfoldable pub once : List ℕ → List ℕ
+once [] = []
+once (n ∷ []) = n ∷ []
+once (n ∷ m ∷ ns) = cond (eqb n m) (once (m ∷ ns)) (n ∷ once (m ∷ ns))
+
+-- n is the number of the first doubt that applies; 0 says that none does
+pub data First : ℕ → List Doubt → Type 0 where
+  none : First 0 []
+  this : (n : ℕ) (ds : List Doubt) → First n (record { number = n; applies = true } ∷ ds)
+  next : {n : ℕ} (m : ℕ) {ds : List Doubt} → First n ds → First n (record { number = m; applies = false } ∷ ds)
+
+-- n is the number of a doubt that applies
+pub data Applies (n : ℕ) : List Doubt → Type 0 where
+  here : (ds : List Doubt) → Applies n (record { number = n; applies = true } ∷ ds)
+  later : (d : Doubt) {ds : List Doubt} → Applies n ds → Applies n (d ∷ ds)
+
+-- ---- every chain
+positive-append : (ds es : List Doubt) → positive (numbers (ds ++ es)) ≡ true → (positive (numbers ds) ≡ true) × (positive (numbers es) ≡ true)
+unfolding positive numbers
+positive-append [] es e = (refl, e)
+positive-append (d ∷ ds) es e =
+    let p = and-true (leb 1 (d .number)) _ e in
+    let q = positive-append ds es (p .1) in
+    (rw (p .0, q .0), q .1)
+
+first-append : {m n : ℕ} {ds es : List Doubt} → First m ds → First n es → positive (numbers ds) ≡ true → First (cond (eqb m 0) n m) (ds ++ es)
+unfolding positive numbers
+first-append none g e = g
+first-append {es = es} (this m ds) g e =
+    let le : 1 ≤ m = leb-true 1 m (and-true (leb 1 m) _ e .0) in
+    rw (ne-eqb m 0 (λ q. omega arith)) (this m (ds ++ es))
+first-append (next k {ds = ds} f) g e = next k (first-append f g (and-true (leb 1 k) (positive (numbers ds)) e .1))
+
+first-one : (n : ℕ) (t : Bool) → First (cond t n 0) (record { number = n; applies = t } ∷ [])
+first-one n true = this n []
+first-one n false = next n none
+
+pub refusal-first : (ds : Doubts) → positive (numbers (doubts ds)) ≡ true → First (refusal ds) (doubts ds)
+unfolding refusal doubts
+refusal-first (n when t) e = first-one n t
+refusal-first (n at k when t) e = first-one n t
+refusal-first (ds orElse es) e =
+    let p = positive-append (doubts ds) (doubts es) e in
+    first-append (refusal-first ds (p .0)) (refusal-first es (p .1)) (p .0)
+
+first-applies : {n : ℕ} {ds : List Doubt} → First n ds → (n ≡ 0 → ⊥) → Applies n ds
+first-applies none h = absurd (h refl)
+first-applies (this n ds) h = here ds
+first-applies (next m f) h = later _ (first-applies f h)
+
+-- ---- chains whose numbers never fall
+rise-positive : (k : ℕ) (ns : List ℕ) → 1 ≤ k → rise k ns ≡ true → positive ns ≡ true
+unfolding rise positive
+rise-positive k [] h e = refl
+rise-positive k (n ∷ ns) h e =
+    let p = and-true (leb k n) _ e in
+    let le : 1 ≤ n = omega (arith, leb-true k n (p .0)) in
+    rw (le-leb 1 n le, rise-positive n ns le (p .1))
+
+above : {k n : ℕ} {ds : List Doubt} → Applies n ds → rise k (numbers ds) ≡ true → k ≤ n
+unfolding rise numbers
+above {k} {n} (here ds) e = leb-true k n (and-true (leb k n) _ e .0)
+above {k} {n} (later d {ds = ds} a) e =
+    let p = and-true (leb k (d .number)) (rise (d .number) (numbers ds)) e in
+    omega (arith, leb-true k (d .number) (p .0), above a (p .1))
+
+first-least : (k : ℕ) {n m : ℕ} {ds : List Doubt} → First n ds → rise k (numbers ds) ≡ true → Applies m ds → n ≤ m
+unfolding rise numbers
+first-least k (this n ds) e a = above a (rw (le-leb n n (le-refl n)) (and-true (leb k n) (rise n (numbers ds)) e .1))
+first-least k (next j {ds = ds} f) e (later d a) = first-least j f (and-true (leb k j) (rise j (numbers ds)) e .1) a
+
+first-some : {n m : ℕ} {ds : List Doubt} → First n ds → positive (numbers ds) ≡ true → Applies m ds → 1 ≤ n
+unfolding positive numbers
+first-some (this n ds) e a = leb-true 1 n (and-true (leb 1 n) (positive (numbers ds)) e .0)
+first-some (next j {ds = ds} f) e (later d a) = first-some f (and-true (leb 1 j) (positive (numbers ds)) e .1) a
+
+-- what is given applies ..
+pub refusal-applies : (ds : Doubts) → positive (numbers (doubts ds)) ≡ true → (refusal ds ≡ 0 → ⊥) → Applies (refusal ds) (doubts ds)
+refusal-applies ds e h = first-applies (refusal-first ds e) h
+
+-- .. and if any applies, one is given, and no lower one applies
+pub refusal-lowest : (ds : Doubts) → rise 1 (numbers (doubts ds)) ≡ true → (n : ℕ) → Applies n (doubts ds) → (1 ≤ refusal ds) × (refusal ds ≤ n)
+refusal-lowest ds e n a =
+    let p = rise-positive 1 (numbers (doubts ds)) (le-refl 1) e in
+    let f = refusal-first ds p in
+    (first-some f p a, first-least 1 f e a)
+
+-- ---- the chains of document 01. Their numbers are computed, whatever the tests beside them say
+pub asked-rise : (b : Bench) (c : Call) → rise 1 (numbers (doubts (asked b c))) ≡ true
+unfolding rise numbers doubts asked commandDoubts frameDoubts rowDoubts whoDoubts limitDoubts unusedDoubts
+asked-rise b (command t f ws) = refl
+asked-rise b (check n t k) = refl
+asked-rise b (arrive n id s) = refl
+asked-rise b (leave n) = refl
+asked-rise b (collect f n k) = refl
+asked-rise b (acknowledge n h) = refl
+
+asked-positive : (b : Bench) (c : Call) → positive (numbers (doubts (asked b c))) ≡ true
+asked-positive b c = rise-positive 1 _ (le-refl 1) (asked-rise b c)
+
+pub judged-first : (b : Bench) (c : Call) → First (judged b c) (doubts (asked b c))
+unfolding judged
+judged-first b c = refusal-first (asked b c) (asked-positive b c)
+
+pub judged-applies : (b : Bench) (c : Call) → (judged b c ≡ 0 → ⊥) → Applies (judged b c) (doubts (asked b c))
+unfolding judged
+judged-applies b c h = refusal-applies (asked b c) (asked-positive b c) h
+
+pub judged-lowest : (b : Bench) (c : Call) (n : ℕ) → Applies n (doubts (asked b c)) → (1 ≤ judged b c) × (judged b c ≤ n)
+unfolding judged
+judged-lowest b c n a = refusal-lowest (asked b c) (asked-rise b c) n a
+
+-- a command packet being read, and both writers
+pub command-rise : (b : Bench) (f : Form) (ws : List ℕ) → rise 1 (numbers (doubts (commandDoubts b f ws))) ≡ true
+unfolding rise numbers doubts commandDoubts frameDoubts rowDoubts whoDoubts limitDoubts unusedDoubts
+command-rise b f ws = refl
+
+pub writer-rise : (b : Bench) (f : Form) (m : Command) (bytes room : ℕ)
+    → rise 1 (numbers (doubts (writerDoubts b (rowOf b (m .command)) f m bytes room))) ≡ true
+unfolding rise numbers doubts writerDoubts whoDoubts limitDoubts unusedDoubts
+writer-rise b f m bytes room = refl
+
+pub responder-rise : (b : Bench) (f : Form) (r : Response) (bytes room : ℕ) → rise 1 (numbers (doubts (responderDoubts b f r bytes room))) ≡ true
+unfolding rise numbers doubts responderDoubts
+responder-rise b f r bytes room = refl
+
+-- a response being read: the paper's order; with `refusal-first`, the first of them that applies is given
+pub response-order : (b : Bench) (f : Form) (ws : List ℕ)
+    → once (numbers (doubts (responseDoubts b f ws))) ≡ 4 ∷ 5 ∷ 6 ∷ 7 ∷ 9 ∷ 3 ∷ 10 ∷ 11 ∷ []
+unfolding once numbers doubts responseDoubts originDoubts contentDoubts
+response-order b f ws = refl
+
+pub response-first : (b : Bench) (f : Form) (ws : List ℕ) → First (refusal (responseDoubts b f ws)) (doubts (responseDoubts b f ws))
+response-first b f ws =
+    refusal-first (responseDoubts b f ws) (unfold positive numbers doubts responseDoubts originDoubts contentDoubts in refl)
