@@ -17,8 +17,11 @@ use meaning::table::OfGateway;
 use meaning::table::OnPlaque;
 use units::Form;
 use units::packing::unpack;
+ghost use Rattle.guide.specs.Say.{GoesOn};
 
-fn say_on_plaque(out: &mut [u8], at: usize, kind: OnPlaque) -> usize {
+fn say_on_plaque(out: &mut [u8], at: usize, kind: OnPlaque) -> usize
+    ensures { λ r. ⌜ GoesOn (now (out .entry)) at (now (out .exit)) r ⌝ }
+{
     match kind {
         OnPlaque::Fill => say(out, at, b"fill"),
         OnPlaque::Read => say(out, at, b"read"),
@@ -28,7 +31,9 @@ fn say_on_plaque(out: &mut [u8], at: usize, kind: OnPlaque) -> usize {
     }
 }
 
-fn say_of_gateway(out: &mut [u8], at: usize, kind: OfGateway) -> usize {
+fn say_of_gateway(out: &mut [u8], at: usize, kind: OfGateway) -> usize
+    ensures { λ r. ⌜ GoesOn (now (out .entry)) at (now (out .exit)) r ⌝ }
+{
     match kind {
         OfGateway::GetName => say(out, at, b"getname"),
         OfGateway::SetName => say(out, at, b"setname"),
@@ -38,7 +43,9 @@ fn say_of_gateway(out: &mut [u8], at: usize, kind: OfGateway) -> usize {
     }
 }
 
-fn say_kind(out: &mut [u8], at: usize, kind: Kind) -> usize {
+fn say_kind(out: &mut [u8], at: usize, kind: Kind) -> usize
+    ensures { λ r. ⌜ GoesOn (now (out .entry)) at (now (out .exit)) r ⌝ }
+{
     match kind {
         Kind::Plaque(k) => say_on_plaque(out, at, k),
         Kind::Continuous => say(out, at, b"continuous"),
@@ -49,21 +56,27 @@ fn say_kind(out: &mut [u8], at: usize, kind: Kind) -> usize {
 }
 
 // A word is shown where the table says that the command uses it.
-fn say_used(out: &mut [u8], at: usize, limits: Limits, label: &[u8], n: u16) -> usize {
+fn say_used(out: &mut [u8], at: usize, limits: Limits, label: &[u8], n: u16) -> usize
+    ensures { λ r. ⌜ GoesOn (now (out .entry)) at (now (out .exit)) r ⌝ }
+{
     if limits.high == 0 {
         return at;
     }
     say_number(out, at, label, n as usize)
 }
 
-fn say_word4(out: &mut [u8], at: usize, kind: Kind, limits: Limits, n: u16) -> usize {
+fn say_word4(out: &mut [u8], at: usize, kind: Kind, limits: Limits, n: u16) -> usize
+    ensures { λ r. ⌜ GoesOn (now (out .entry)) at (now (out .exit)) r ⌝ }
+{
     match kind {
         Kind::Continuous => say_used(out, at, limits, b" delay=", n),
         _ => say_used(out, at, limits, b" timeout=", n),
     }
 }
 
-fn say_command(out: &mut [u8], at: usize, m: Command) -> usize {
+fn say_command(out: &mut [u8], at: usize, m: Command) -> usize
+    ensures { λ r. ⌜ GoesOn (now (out .entry)) at (now (out .exit)) r ⌝ }
+{
     let row = row_of(m.command);
     let kind = row.kind;
     let word4 = row.word4;
@@ -76,7 +89,9 @@ fn say_command(out: &mut [u8], at: usize, m: Command) -> usize {
     say_used(out, d, size, b" size=", m.size)
 }
 
-fn say_data(out: &mut [u8], at: usize, bytes: &[u8]) -> usize {
+fn say_data(out: &mut [u8], at: usize, bytes: &[u8]) -> usize
+    ensures { λ r. ⌜ GoesOn (now (out .entry)) at (now (out .exit)) r ⌝ }
+{
     if bytes.len() == 0 {
         return at;
     }
@@ -91,14 +106,18 @@ fn say_accepted(
     form: Form,
     m: Command,
     bytes: &[u8],
-) -> usize {
+) -> usize
+    ensures { λ r. ⌜ GoesOn (now (out .entry)) at (now (out .exit)) r ⌝ }
+{
     let a = say(out, at, b"ok ");
     let b = say_command(out, a, m);
     let c = say_data(out, b, bytes);
     say_same(out, c, same_command(words, form, m, bytes))
 }
 
-pub fn say_of_command(out: &mut [u8], at: usize, words: &[u16], form: Form) -> usize {
+pub fn say_of_command(out: &mut [u8], at: usize, words: &[u16], form: Form) -> usize
+    ensures { λ r. ⌜ GoesOn (now (out .entry)) at (now (out .exit)) r ⌝ }
+{
     match read_command(words, form) {
         CommandRead::Refused(n) => {
             let a = say_number(out, at, b"refused ", n as usize);

@@ -14,8 +14,11 @@ use response::reader::response_data;
 use units::Form;
 use units::packing::unpack;
 use units::stamp::Stamp;
+ghost use Rattle.guide.specs.Say.{GoesOn};
 
-fn say_month(out: &mut [u8], at: usize, month: u8) -> usize {
+fn say_month(out: &mut [u8], at: usize, month: u8) -> usize
+    ensures { λ r. ⌜ GoesOn (now (out .entry)) at (now (out .exit)) r ⌝ }
+{
     let from = month as usize * 3;
     say(
         out,
@@ -24,7 +27,9 @@ fn say_month(out: &mut [u8], at: usize, month: u8) -> usize {
     )
 }
 
-fn say_time(out: &mut [u8], at: usize, t: Stamp) -> usize {
+fn say_time(out: &mut [u8], at: usize, t: Stamp) -> usize
+    ensures { λ r. ⌜ GoesOn (now (out .entry)) at (now (out .exit)) r ⌝ }
+{
     let a = say_two(out, at, t.hour);
     let b = say(out, a, b":");
     let c = say_two(out, b, t.minute);
@@ -32,7 +37,9 @@ fn say_time(out: &mut [u8], at: usize, t: Stamp) -> usize {
     say_two(out, d, t.second)
 }
 
-fn say_stamp(out: &mut [u8], at: usize, t: Stamp) -> usize {
+fn say_stamp(out: &mut [u8], at: usize, t: Stamp) -> usize
+    ensures { λ r. ⌜ GoesOn (now (out .entry)) at (now (out .exit)) r ⌝ }
+{
     let a = say_number(out, at, b" stamp=", t.day as usize);
     let b = say(out, a, b" ");
     let c = say_month(out, b, t.month);
@@ -40,20 +47,26 @@ fn say_stamp(out: &mut [u8], at: usize, t: Stamp) -> usize {
     say_time(out, d, t)
 }
 
-fn say_origin(out: &mut [u8], at: usize, r: Response) -> usize {
+fn say_origin(out: &mut [u8], at: usize, r: Response) -> usize
+    ensures { λ to. ⌜ GoesOn (now (out .entry)) at (now (out .exit)) to ⌝ }
+{
     let stamp = r.stamp;
     let a = say_number(out, at, b" node=", r.node as usize);
     let b = say_number(out, a, b" count=", r.count as usize);
     say_stamp(out, b, stamp)
 }
 
-fn say_error(out: &mut [u8], at: usize, r: Response, bytes: &[u8]) -> usize {
+fn say_error(out: &mut [u8], at: usize, r: Response, bytes: &[u8]) -> usize
+    ensures { λ to. ⌜ GoesOn (now (out .entry)) at (now (out .exit)) to ⌝ }
+{
     let a = say_byte(out, at, b"error info=", r.echo);
     let b = say_origin(out, a, r);
     say_bytes(out, b, b" code=", bytes)
 }
 
-fn say_answer(out: &mut [u8], at: usize, r: Response, bytes: &[u8]) -> usize {
+fn say_answer(out: &mut [u8], at: usize, r: Response, bytes: &[u8]) -> usize
+    ensures { λ to. ⌜ GoesOn (now (out .entry)) at (now (out .exit)) to ⌝ }
+{
     let a = say_byte(out, at, b"echo=", r.echo);
     let b = say_origin(out, a, r);
     let c = say_number(out, b, b" len=", bytes.len());
@@ -63,7 +76,9 @@ fn say_answer(out: &mut [u8], at: usize, r: Response, bytes: &[u8]) -> usize {
     say_bytes(out, c, b" data=", bytes)
 }
 
-fn say_response(out: &mut [u8], at: usize, r: Response, bytes: &[u8]) -> usize {
+fn say_response(out: &mut [u8], at: usize, r: Response, bytes: &[u8]) -> usize
+    ensures { λ to. ⌜ GoesOn (now (out .entry)) at (now (out .exit)) to ⌝ }
+{
     if r.error {
         return say_error(out, at, r, bytes);
     }
@@ -78,13 +93,17 @@ fn say_accepted(
     form: Form,
     r: Response,
     bytes: &[u8],
-) -> usize {
+) -> usize
+    ensures { λ to. ⌜ GoesOn (now (out .entry)) at (now (out .exit)) to ⌝ }
+{
     let a = say(out, at, b"ok ");
     let b = say_response(out, a, r, bytes);
     say_same(out, b, same_response(words, form, r, bytes))
 }
 
-pub fn say_of_response(out: &mut [u8], at: usize, words: &[u16], form: Form) -> usize {
+pub fn say_of_response(out: &mut [u8], at: usize, words: &[u16], form: Form) -> usize
+    ensures { λ r. ⌜ GoesOn (now (out .entry)) at (now (out .exit)) r ⌝ }
+{
     match read_response(words, form) {
         ResponseRead::Refused(n) => {
             let a = say_number(out, at, b"refused ", n as usize);

@@ -1,7 +1,9 @@
 // Reading a line of worked packets. A place past the end is no fault: there is nothing there.
-ghost use Prim.Native.Nat.{_<_, _≤_};
-ghost use lib.ListN.{length};
+ghost use Prim.Native.Nat.{_-_, _<_, _≤_};
+ghost use mathlib.Core.Path.{_≡_};
+ghost use lib.ListN.{length, take, drop};
 ghost use Rattle.io.specs.Counts.{Counts};
+ghost use Rattle.guide.specs.Scan.{standsAt};
 
 // The place after the first byte b at or after a place; the end where there is none.
 pub fn after(s: &[u8], from: usize, b: u8) -> usize
@@ -18,17 +20,25 @@ pub fn after(s: &[u8], from: usize, b: u8) -> usize
     s.len()
 }
 
-pub fn part(s: &[u8], from: usize, to: usize) -> &[u8] {
-    if s.len() < to {
-        return s;
+// What there is from one place up to another.
+pub fn part(s: &[u8], from: usize, to: usize) -> &[u8]
+    ensures { λ r. ⌜ now r ≡ take (to - from) (drop from (now (s .entry))) ⌝ }
+{
+    if s.len() < from {
+        return &s[..0];
     }
     if to < from {
-        return s;
+        return &s[..0];
+    }
+    if s.len() < to {
+        return &s[from..];
     }
     &s[from..to]
 }
 
-pub fn starts(s: &[u8], from: usize, b: u8) -> bool {
+pub fn starts(s: &[u8], from: usize, b: u8) -> bool
+    ensures { λ r. ⌜ r ≡ standsAt (now (s .entry)) from b ⌝ }
+{
     if s.len() <= from {
         return false;
     }
