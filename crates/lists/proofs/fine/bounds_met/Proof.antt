@@ -1,0 +1,95 @@
+-- No count passes the limit exactly if none does from i on; so charges may be added up.
+-- Assumes nothing.
+use Prim.Native.Nat.{ℕ, _-_, _≤_, _<_}
+use mathlib.Core.Path.{_≡_, sym, _∙_}
+use mathlib.Core.Bool.{Bool, true}
+use mathlib.Core.List.{List}
+use native.Mathlib.Omega.{arith}
+use lib.Dec.{leb}
+use lib.ListN.{length, drop, getD, length-map}
+use borrow.Author.Needs.{needs}
+use borrow.Author.Tests.{le-leb, lt-leb, leb-true}
+use Rattle.units.specs.Count.{every}
+use Rattle.units.specs.declared.Words.{Words}
+use Rattle.units.proofs.Choice.{yes-and, no-and}
+use Rattle.state.specs.Consistent.{bounded}
+use Rattle.state.proofs.Lists.{every-at, every-end, every-get}
+use Rattle.lists.specs.Room.{counts}
+use Rattle.lists.proofs.Charges.{count-at}
+use Rattle.lists.proofs.fine.bounds_met.Statement.{statement}
+use Rattle.lists.proofs.fine.bounds_met.Tie as tie
+
+-- no count passes the limit
+abbrev limited : List ℕ → Bool
+limited = every (λ h. leb h 804)
+
+abbrev Inv-loop : tie.InvT-loop
+Inv-loop hs i₀ i = (i ≤ 17) × (limited (counts hs) ≡ limited (drop i (counts hs)))
+
+abbrev μ-loop : tie.MeasureT-loop
+μ-loop hs i₀ i = 17 - i
+
+long : (c : tie.Start Inv-loop μ-loop) → length (counts (c .args .t1)) ≡ 17
+long c = let n : length (c .args .t1) ≡ 17 = search needs in rw length-map n
+
+-- past the loop: none does
+all-in : (c : tie.After-loop Inv-loop μ-loop) → limited (counts (c .before .before .args .t1)) ≡ true
+all-in c = let n = long (c .before .before) in c .before .loop .inv .1 ∙ every-end (λ h. leb h 804) _ (c .before .loop .i) (omega arith)
+
+loop-holds : tie.Need-loop-holds Inv-loop μ-loop
+loop-holds c = search needs
+
+mul-h : tie.Need-mul-h Inv-loop μ-loop
+mul-h c = search needs
+
+array-copy-out-h : tie.Need-array-copy-out-h Inv-loop μ-loop
+array-copy-out-h c = search needs
+
+returns : tie.Need-returns Inv-loop μ-loop
+unfolding bounded
+returns c =
+    let hs : List Words = c .before .before .before .before .before .args .t1 in
+    let n = long (c .before .before .before .before .before) in
+    let l = c .before .before .before .before .loop in
+    let h : 804 < getD (counts hs) (l .i) 0 = omega (arith, count-at hs (l .i)) in
+    sym (no-and _ (l .inv .1 ∙ every-at (λ h. leb h 804) (counts hs) (l .i) 0 (omega arith) ∙ no-and _ (lt-leb _ _ h)))
+
+add-i : tie.Need-add-i Inv-loop μ-loop
+add-i c = search needs
+
+loop-less : tie.Need-loop-less Inv-loop μ-loop
+loop-less c = search needs
+
+loop-again : tie.Need-loop-again Inv-loop μ-loop
+loop-again c =
+    let hs : List Words = c .before .before .before .before .before .args .t1 in
+    let n = long (c .before .before .before .before .before) in
+    let l = c .before .before .before .before .loop in
+    let h : getD (counts hs) (l .i) 0 ≤ 804 = omega (arith, count-at hs (l .i)) in
+    (omega arith, l .inv .1 ∙ every-at (λ h. leb h 804) (counts hs) (l .i) 0 (omega arith) ∙ yes-and (le-leb _ _ h))
+
+charges-requires : tie.Need-charges-requires Inv-loop μ-loop
+charges-requires c κs =
+    let hs = counts (c .before .before .args .t1) in
+    let n = long (c .before .before) in
+    λ j g. omega (arith, leb-true (getD hs j 0) 804 (every-get (λ h. leb h 804) hs j 0 (all-in c) (omega arith)))
+
+returns-2 : tie.Need-returns-2 Inv-loop μ-loop
+unfolding bounded
+returns-2 c = rw (c .before .charges .ensures) (sym (yes-and (all-in (c .before .before))))
+
+pub bounds-met-spec : {M : Type 1} → statement M
+bounds-met-spec =
+    tie.close
+    (tie.spec
+    Inv-loop
+    μ-loop
+    loop-holds
+    mul-h
+    array-copy-out-h
+    returns
+    add-i
+    loop-less
+    loop-again
+    charges-requires
+    returns-2)

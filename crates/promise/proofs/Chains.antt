@@ -1,0 +1,157 @@
+-- A chain of calls, each as promised, from a machine that is in order: it says what the meaning's run says, and means what that comes to.
+-- Assumes nothing.
+use Prim.Native.Nat.{ℕ, zero, suc, _*_}
+use mathlib.Core.Path.{_≡_, refl, sym, ap, _∙_, fun-ext}
+use mathlib.Core.Bool.{Bool, true, false, cond, false≢true}
+use mathlib.Core.List.{List, [], _∷_, map}
+use lib.ListN.{length, getD, replicate}
+use borrow.Author.Tests.{eq-eqb}
+use Rattle.units.specs.Count.{every}
+use Rattle.units.proofs.Choice.{yes-cond}
+use Rattle.meaning.specs.Bench.{Bench, full, isReader, isNode}
+use Rattle.meaning.specs.Gateway as M
+use Rattle.meaning.specs.Gateway.{Gateway, fresh}
+use Rattle.meaning.specs.Call.{Call, Said, refused, answered, queued, Outcome, step, run}
+use Rattle.demands.specs.Sound.{full-sound}
+use Rattle.demands.specs.Demand.{Line, line, log, kept, struck, stays, Ease}
+use Rattle.demands.proofs.Room.{refusal-changes-nothing}
+use Rattle.demands.proofs.Alone.{strike-out}
+use Rattle.state.specs.State.{freshReader, freshNode}
+use Rattle.state.specs.Machine.{Machine, meaning, seen, nodeSlot, readerSlot, nodesOf, readersOf, nodeOf, pendingOf, readerOf, fieldOf, modeOf, regionOf, plain}
+use Rattle.state.specs.Consistent.{nodeOk, plaqueOk, readingOk, reportOk, readerOk, nameOk, unfit}
+use Rattle.store.proofs.Swept.{fresh-lists}
+use Rattle.promise.specs.Obeyed.{turned, expected, Obeyed}
+use Rattle.promise.specs.Runs.{Heard, Chain, ended, calls, lines, freshMachine}
+use Rattle.promise.proofs.Parts.{fit}
+
+-- one call as promised on a machine that is in order is one step
+pub record Stepped (b : Bench) (c : Call) (m : Machine) (said : Said) (m′ : Machine) : Type 0 where
+  pub says : said ≡ (step b (meaning b m) c) .said
+  pub means : meaning b m′ ≡ (step b (meaning b m) c) .next
+  pub fit : unfit b m′ ≡ 0
+
+turned-is : (s : Said) → turned s ≡ true → (k : ℕ) × (s ≡ refused k)
+unfolding turned
+turned-is (refused k) e = (k, refl)
+turned-is (answered r) e = absurd (false≢true e)
+turned-is queued e = absurd (false≢true e)
+
+pub stepped : (b : Bench) (c : Call) (m : Machine) (said : Said) (m′ : Machine) → unfit b m ≡ 0 → Obeyed b c m said m′ → Stepped b c m said m′
+unfolding expected
+stepped b c m said m′ u o = go (turned said) refl
+  where
+    is : expected b c m ≡ step b (meaning b m) c
+    is = yes-cond _ (eq-eqb (unfit b m) 0 u)
+
+    says : said ≡ (step b (meaning b m) c) .said
+    says = o .says ∙ ap (λ (x : Outcome). x .said) is
+
+    go : (t : Bool) → turned said ≡ t → Stepped b c m said m′
+    go true e =
+        let k = turned-is said e in
+        record {
+          says = says;
+          means = ap (meaning b) (o .refusal e) ∙ sym (refusal-changes-nothing b (meaning b m) c (k .0) (sym says ∙ k .1));
+          fit = ap (unfit b) (o .refusal e) ∙ u;
+        }
+    go false e = record { says = says; means = o .means e ∙ ap (λ (x : Outcome). x .next) is; fit = o .sound e }
+
+-- ---- a chain is a run: the same lines at every node, the same end; and no call of it is refused by 1 or 2
+module _ (b : Bench) where
+  pub chain-lines : (i : ℕ) (m : Machine) (hs : List Heard) → unfit b m ≡ 0 → Chain b m hs → lines b i hs ≡ log b i (meaning b m) (calls hs)
+  unfolding lines log Chain line
+  chain-lines i m [] u c = refl
+  chain-lines i m (h ∷ hs) u c =
+      let s = stepped b (h .call) m (h .said) (h .after) u (c .0) in
+      let r : lines b i hs ≡ log b i ((step b (meaning b m) (h .call)) .next) (calls hs) =
+      chain-lines i (h .after) hs (s .fit) (c .1) ∙ ap (λ (g : Gateway). log b i g (calls hs)) (s .means) in
+      ap (λ (x : Said). record {
+        call = h .call;
+        said = x;
+        node = meaning b (h .after) .nodes i;
+        reader = meaning b (h .after) .reader i;
+        name = meaning b (h .after) .name;
+      } ∷ lines b i hs) (s .says)
+      ∙ ap (λ (g : Gateway). line i (h .call) (record { said = (step b (meaning b m) (h .call)) .said; next = g }) ∷ lines b i hs) (s .means)
+      ∙ ap (λ (ls : List Line). line i (h .call) (step b (meaning b m) (h .call)) ∷ ls) r
+
+  pub chain-ends : (m : Machine) (hs : List Heard) → unfit b m ≡ 0 → Chain b m hs → meaning b (ended m hs) ≡ run b (meaning b m) (calls hs)
+  unfolding ended run Chain
+  chain-ends m [] u c = refl
+  chain-ends m (h ∷ hs) u c =
+      let s = stepped b (h .call) m (h .said) (h .after) u (c .0) in
+      chain-ends (h .after) hs (s .fit) (c .1) ∙ ap (λ (g : Gateway). run b g (calls hs)) (s .means)
+
+  pub chain-fit : (m : Machine) (hs : List Heard) → unfit b m ≡ 0 → Chain b m hs → unfit b (ended m hs) ≡ 0
+  unfolding ended Chain
+  chain-fit m [] u c = u
+  chain-fit m (h ∷ hs) u c = chain-fit (h .after) hs (stepped b (h .call) m (h .said) (h .after) u (c .0) .fit) (c .1)
+
+-- ---- a fresh machine, of the bench `full`: a fresh state has its arrays' lengths
+pub fresh-fit : (store memory : List ℕ) → length store ≡ full .store → length memory ≡ full .readers * full .region
+    → unfit full (freshMachine store memory) ≡ 0
+unfolding every nodeOk readerOk plaqueOk readingOk reportOk nameOk
+fresh-fit store memory a b = fit full (freshMachine store memory) (record {
+  store = a;
+  memory = b;
+  lists = fresh-lists store;
+  nodes = refl;
+  readers = refl;
+  name = refl;
+  wide = refl;
+  eachReader = refl;
+  eachNode = refl;
+})
+
+in-row : {A : Type 0} (P : A → Type 0) (k i : ℕ) (x d : A) → P x → P d → P (getD (replicate k x) i d)
+in-row P zero i x d p q = q
+in-row P (suc k) zero x d p q = p
+in-row P (suc k) (suc i) x d p q = in-row P k i x d p q
+
+seen-row : {A : Type 0} (P : A → Type 0) (ok : ℕ → Bool) (slot : ℕ → ℕ) (k n : ℕ) (x d : A) → P x → P d → P (seen ok slot d (replicate k x) n)
+unfolding seen
+seen-row P ok slot k n x d p q = go (ok n)
+  where
+    go : (t : Bool) → P (cond t (getD (replicate k x) (slot n) d) d)
+    go true = in-row P k (slot n) x d p q
+    go false = q
+
+map-row : {A B : Type 0} (f : A → B) (k : ℕ) (x : A) → map f (replicate k x) ≡ replicate k (f x)
+map-row f zero x = refl
+map-row f (suc k) x = ap (λ l. f x ∷ l) (map-row f k x)
+
+pub fresh-means : (b : Bench) (store memory : List ℕ) → meaning b (freshMachine store memory) ≡ fresh (regionOf b memory)
+unfolding meaning fresh nodesOf readersOf nodeOf pendingOf readerOf fieldOf modeOf
+fresh-means b store memory =
+    let ns : seen (isNode b) (nodeSlot b) plain (map (nodeOf store) (replicate 17 freshNode)) ≡ (λ (n : ℕ). plain) =
+    ap (seen (isNode b) (nodeSlot b) plain) (map-row (nodeOf store) 17 freshNode)
+    ∙ fun-ext (λ n. seen-row (λ y. y ≡ plain) (isNode b) (nodeSlot b) 17 n plain plain refl refl) in
+    let rs : (n : ℕ) → readerOf (seen (isReader b) readerSlot freshReader (replicate 16 freshReader) n) (regionOf b memory n)
+    ≡ record { field = M.empty; mode = M.off; region = regionOf b memory n } =
+    λ n. seen-row (λ y. readerOf y (regionOf b memory n) ≡ record { field = M.empty; mode = M.off; region = regionOf b memory n }) (isReader b) readerSlot 16 n freshReader freshReader refl refl in
+    ap (λ (f : ℕ → M.Node). record {
+      name = [];
+      nodes = f;
+      reader = λ (n : ℕ). readerOf (seen (isReader b) readerSlot freshReader (replicate 16 freshReader) n) (regionOf b memory n);
+    })
+    ns
+    ∙ ap (λ (f : ℕ → M.Reader). record { name = []; nodes = λ (n : ℕ). plain; reader = f }) (fun-ext rs)
+
+-- ---- demand 3 of the code: the lines of any chain from a fresh machine, those of other readers' calls left out, are the struck-out run's
+module _ (i : ℕ) (store memory : List ℕ) (words : length store ≡ full .store) (bytes : length memory ≡ full .readers * full .region) (hs : List Heard)
+    (chain : Chain full (freshMachine store memory) hs) where
+  fresh-lines : lines full i hs ≡ log full i (fresh (regionOf full memory)) (calls hs)
+  fresh-lines =
+      chain-lines full i (freshMachine store memory) hs (fresh-fit store memory words bytes) chain
+      ∙ ap (λ (g : Gateway). log full i g (calls hs)) (fresh-means full store memory)
+
+  pub struck-lines : Ease full i (fresh (regionOf full memory)) (calls hs)
+      → kept (λ l. stays full i (l .call)) (lines full i hs) ≡ log full i (fresh (regionOf full memory)) (struck full i (calls hs))
+  struck-lines z = ap (kept (λ (l : Line). stays full i (l .call))) fresh-lines ∙ strike-out full full-sound i (regionOf full memory) (calls hs) z
+
+pub struck-chain : (i : ℕ) (store memory : List ℕ) → length store ≡ full .store → length memory ≡ full .readers * full .region → (hs js : List Heard)
+    → Chain full (freshMachine store memory) hs → Chain full (freshMachine store memory) js → calls js ≡ struck full i (calls hs)
+    → Ease full i (fresh (regionOf full memory)) (calls hs) → kept (λ l. stays full i (l .call)) (lines full i hs) ≡ lines full i js
+struck-chain i store memory words bytes hs js c d e z =
+    struck-lines i store memory words bytes hs c z
+    ∙ sym (fresh-lines i store memory words bytes js d ∙ ap (log full i (fresh (regionOf full memory))) e)

@@ -1,0 +1,335 @@
+-- Any two outcomes that a promise permits are the same, but for an answer's place and the store's words in no pending answer.
+-- Assumes nothing.
+use Prim.Native.Nat.{ℕ, zero, suc, _+_, _-_, _*_, _≤_, _<_}
+use mathlib.Core.Path.{_≡_, refl, sym, ap, _∙_, subst}
+use mathlib.Core.Logic.{_⊎_, inl, inr}
+use mathlib.Core.Bool.{Bool, true, false, not, _&&_, cond}
+use mathlib.Core.List.{List, [], _∷_, _++_, map}
+use native.Mathlib.Omega.{arith}
+use native.Mathlib.Nat.{zero-mul}
+use lib.Dec.{leb, eqb}
+use lib.ListN.{length, getD, take, drop, replicate, take-append-drop, length-drop, length-map, List·getD-map}
+use lib.Seq.{slice, ext-getD, length-take-le, take-take, take-all}
+use borrow.Author.Tests.{eqb-true, leb-true, le-leb, not-true}
+use Rattle.units.specs.Count.{every, within}
+use Rattle.units.proofs.Choice.{and-true}
+use Rattle.meaning.specs.Bench.{Bench, hub, isReader, isNode}
+use Rattle.meaning.specs.Gateway as M
+use Rattle.meaning.specs.Gateway.{Gateway, empty, plaque, Report, never, last, on}
+use Rattle.meaning.specs.Call.{Call, Said, refused, answered, queued, done, quiet, handed, Outcome}
+use Rattle.demands.specs.Sound.{Sound}
+use Rattle.state.specs.State.{freshReader, freshNode}
+use Rattle.state.specs.Machine.{Machine, meaning, nodeSlot, readersOf, nodeOf, pendingOf, readerOf, fieldOf, modeOf, reportOf, regionOf}
+use Rattle.state.specs.Consistent.{most, zeros, tailClear, plaqueOk, readingOk, reportOk, nameOk}
+use Rattle.state.specs.declared.reader.Plaque as P
+use Rattle.state.specs.declared.reader.Reading as D
+use Rattle.state.specs.declared.reader.Report as T
+use Rattle.state.specs.declared.reader.Reader.{Reader}
+use Rattle.state.specs.declared.node.Node.{Node}
+use Rattle.state.specs.declared.Name.{Name}
+use Rattle.state.proofs.Lists.{getD-any, below-or, every-get}
+use Rattle.store.proofs.Every.{both}
+use Rattle.store.proofs.Order.{lists-parts}
+use Rattle.promise.specs.Obeyed as O
+use Rattle.promise.specs.Obeyed.{spoken, turned, Does, Obeyed}
+use Rattle.promise.specs.Same.{Known, known, Alike}
+use Rattle.promise.specs.declared.Reply.{Reply}
+use Rattle.promise.specs.declared.Handout.{Handout}
+use Rattle.promise.proofs.Parts.{Parts, parts}
+use Rattle.promise.proofs.Tables.{reader-node, reader-slot, node-hub, reader-at, node-at}
+use Rattle.promise.proofs.Readers.{ReaderParts, reader-parts, reader-in-order}
+use Rattle.promise.proofs.Nodes.{list-few, pending-long}
+
+-- all 0: fixed by the length
+zeros-are : (l : List ℕ) → zeros l ≡ true → l ≡ replicate (length l) 0
+unfolding every
+zeros-are [] e = refl
+zeros-are (x ∷ l) e =
+    let p = and-true (eqb x 0) (zeros l) e in
+    ap (λ (k : ℕ). k ∷ l) (eqb-true x 0 (p .0)) ∙ ap (λ (k : List ℕ). 0 ∷ k) (zeros-are l (p .1))
+
+zeros-same : (l k : List ℕ) → zeros l ≡ true → zeros k ≡ true → length l ≡ length k → l ≡ k
+zeros-same l k p q e = zeros-are l p ∙ ap (λ (n : ℕ). replicate n 0) e ∙ sym (zeros-are k q)
+
+-- ---- values whose parts are equal
+name-by : {n k : ℕ} {l m : List ℕ} → n ≡ k → l ≡ m → _≡_ {A = Name} (record { length = record { 0 = n }; bytes = l }) (record { length = record { 0 = k }; bytes = m })
+name-by n l = cc
+
+plaque-by : {s t : Bool} {i j : List ℕ} {n k : ℕ} → s ≡ t → i ≡ j → n ≡ k
+    → _≡_ {A = P.Plaque} (record { present = s; id = i; length = record { 0 = n } }) (record { present = t; id = j; length = record { 0 = k } })
+plaque-by s i n = cc
+
+report-by : {s t : Bool} {i j : List ℕ} {n k : ℕ} → s ≡ t → i ≡ j → n ≡ k
+    → _≡_ {A = T.Report} (record { kept = s; id = i; clock = n }) (record { kept = t; id = j; clock = k })
+report-by s i n = cc
+
+reading-by : {s t n k d e : ℕ} → s ≡ t → n ≡ k → d ≡ e
+    → _≡_ {A = D.Reading} (record { start = s; size = record { 0 = n }; delay = d }) (record { start = t; size = record { 0 = k }; delay = e })
+reading-by s n d = cc
+
+reader-by : {p q : P.Plaque} {r s : D.Reading} {t u : T.Report} → p ≡ q → r ≡ s → t ≡ u
+    → _≡_ {A = Reader} (record { plaque = p; reading = r; report = t }) (record { plaque = q; reading = s; report = u })
+reader-by p r t = cc
+
+known-by : {i j h k c d : ℕ} {a e : List (List ℕ)} {p q : List ℕ} → i ≡ j → h ≡ k → c ≡ d → a ≡ e → p ≡ q
+    → _≡_ {A = Known} (record { instance = i; handover = h; count = c; answers = a; past = p })
+    (record { instance = j; handover = k; count = d; answers = e; past = q })
+known-by i h c a p = cc
+
+-- ---- the name
+name-same : (s t : Name) → nameOk s ≡ true → nameOk t ≡ true → length (s .bytes) ≡ 64 → length (t .bytes) ≡ 64
+    → take (s .length .0) (s .bytes) ≡ take (t .length .0) (t .bytes) → s ≡ t
+unfolding nameOk
+name-same s t p q a c e =
+    let i = s .length .0 in
+    let j = t .length .0 in
+    let u = and-true (leb i 64) _ p in
+    let v = and-true (leb j 64) _ q in
+    let x : i ≤ 64 = leb-true _ _ (u .0) in
+    let y : j ≤ 64 = leb-true _ _ (v .0) in
+    let n : i ≡ j = sym (length-take-le i (s .bytes) (omega arith)) ∙ ap length e ∙ length-take-le j (t .bytes) (omega arith) in
+    let k : length (drop i (s .bytes)) ≡ length (drop j (t .bytes)) = simp length-drop (omega arith) in
+    let d : drop i (s .bytes) ≡ drop j (t .bytes) = zeros-same _ _ (u .1) (v .1) k in
+    let w : s .bytes ≡ t .bytes =
+    sym (take-append-drop i (s .bytes)) ∙ ap (λ (l : List ℕ). l ++ drop i (s .bytes)) e ∙ ap (λ (l : List ℕ). take j (t .bytes) ++ l) d
+    ∙ take-append-drop j (t .bytes) in
+    name-by n w
+
+-- ---- a reader: its parts are fixed by what they mean and the zeros
+clash : {A : Type 0} → _≡_ {A = ℕ} 0 1 → A
+clash z = absurd (omega arith)
+
+plaque-same : (b : Bench) (p q : P.Plaque) → plaqueOk b p ≡ true → plaqueOk b q ≡ true → fieldOf p ≡ fieldOf q → p ≡ q
+unfolding fieldOf plaqueOk
+plaque-same b p q f g e =
+    let u = and-true (eqb (length (p .id)) 8) _ f in
+    let v = and-true (eqb (length (q .id)) 8) _ g in
+    let l : length (p .id) ≡ length (q .id) = eqb-true _ _ (u .0) ∙ sym (eqb-true _ _ (v .0)) in
+    go (p .present) refl (q .present) refl (u .1) (v .1) l e
+  where
+    go : (s : Bool) → p .present ≡ s → (t : Bool) → q .present ≡ t
+        → cond s (within 1 (b .region) (p .length .0)) (eqb (p .length .0) 0 && zeros (p .id)) ≡ true
+        → cond t (within 1 (b .region) (q .length .0)) (eqb (q .length .0) 0 && zeros (q .id)) ≡ true → length (p .id) ≡ length (q .id)
+        → cond s (plaque (p .id) (p .length .0)) empty ≡ cond t (plaque (q .id) (q .length .0)) empty → p ≡ q
+    go true a true c x y l e = plaque-by (a ∙ sym c) (cc) (cc)
+    go true a false c x y l e = clash (cc)
+    go false a true c x y l e = clash (cc)
+    go false a false c x y l e =
+        let u = and-true (eqb (p .length .0) 0) _ x in
+        let v = and-true (eqb (q .length .0) 0) _ y in
+        plaque-by (a ∙ sym c) (zeros-same (p .id) (q .id) (u .1) (v .1) l) (eqb-true _ _ (u .0) ∙ sym (eqb-true _ _ (v .0)))
+
+report-same : (p q : T.Report) → reportOk p ≡ true → reportOk q ≡ true → reportOf p ≡ reportOf q → p ≡ q
+unfolding reportOf reportOk
+report-same p q f g e =
+    let u = and-true (eqb (length (p .id)) 8) _ f in
+    let v = and-true (eqb (length (q .id)) 8) _ g in
+    let l : length (p .id) ≡ length (q .id) = eqb-true _ _ (u .0) ∙ sym (eqb-true _ _ (v .0)) in
+    go (p .kept) refl (q .kept) refl (u .1) (v .1) l e
+  where
+    go : (s : Bool) → p .kept ≡ s → (t : Bool) → q .kept ≡ t → cond s true (zeros (p .id) && eqb (p .clock) 0) ≡ true
+        → cond t true (zeros (q .id) && eqb (q .clock) 0) ≡ true → length (p .id) ≡ length (q .id)
+        → cond s (last (p .id) (p .clock)) never ≡ cond t (last (q .id) (q .clock)) never → p ≡ q
+    go true a true c x y l e = report-by (a ∙ sym c) (cc) (cc)
+    go true a false c x y l e = clash (cc)
+    go false a true c x y l e = clash (cc)
+    go false a false c x y l e =
+        let u = and-true (zeros (p .id)) _ x in
+        let v = and-true (zeros (q .id)) _ y in
+        report-by (a ∙ sym c) (zeros-same (p .id) (q .id) (u .0) (v .0) l) (eqb-true _ _ (u .1) ∙ sym (eqb-true _ _ (v .1)))
+
+record SameMode (r s : D.Reading) (p q : T.Report) : Type 0 where
+  reading : r ≡ s
+  report : reportOf p ≡ reportOf q
+
+mode-same : (b : Bench) (r s : D.Reading) (p q : T.Report) → readingOk b r (p .kept) ≡ true → readingOk b s (q .kept) ≡ true
+    → modeOf r p ≡ modeOf s q → SameMode r s p q
+unfolding modeOf readingOk reportOf
+mode-same b r s p q f g e = go (eqb (r .size .0) 0) refl (eqb (s .size .0) 0) refl f g e
+  where
+    unkept : (p q : T.Report) → not (p .kept) ≡ true → not (q .kept) ≡ true → reportOf p ≡ reportOf q
+    unkept p q x y =
+        ap (λ (t : Bool). cond t (last (p .id) (p .clock)) never) (not-true (p .kept) x)
+        ∙ sym (ap (λ (t : Bool). cond t (last (q .id) (q .clock)) never) (not-true (q .kept) y))
+
+    go : (t : Bool) → eqb (r .size .0) 0 ≡ t → (u : Bool) → eqb (s .size .0) 0 ≡ u
+        → cond t (eqb (r .start) 0 && (eqb (r .delay) 0 && not (p .kept)))
+        (leb (r .size .0) 255 && (leb (r .start + r .size .0) (b .region) && leb (r .delay) 60)) ≡ true
+        → cond u (eqb (s .start) 0 && (eqb (s .delay) 0 && not (q .kept)))
+        (leb (s .size .0) 255 && (leb (s .start + s .size .0) (b .region) && leb (s .delay) 60)) ≡ true
+        → cond t M.off (on (r .start) (r .size .0) (r .delay) (reportOf p)) ≡ cond u M.off (on (s .start) (s .size .0) (s .delay) (reportOf q))
+        → SameMode r s p q
+    go true a true c x y e =
+        let x₁ = and-true (eqb (r .start) 0) _ x in
+        let y₁ = and-true (eqb (s .start) 0) _ y in
+        let x₂ = and-true (eqb (r .delay) 0) _ (x₁ .1) in
+        let y₂ = and-true (eqb (s .delay) 0) _ (y₁ .1) in
+        record {
+          reading = reading-by (eqb-true _ _ (x₁ .0) ∙ sym (eqb-true _ _ (y₁ .0))) (eqb-true _ _ a ∙ sym (eqb-true _ _ c)) (eqb-true _ _ (x₂ .0) ∙ sym (eqb-true _ _ (y₂ .0)));
+          report = unkept p q (x₂ .1) (y₂ .1);
+        }
+    go true a false c x y e = clash (cc)
+    go false a true c x y e = clash (cc)
+    go false a false c x y e = record { reading = reading-by (cc) (cc) (cc); report = cc }
+
+reader-same : (b : Bench) (x y : Reader) → ReaderParts b x → ReaderParts b y → fieldOf (x .plaque) ≡ fieldOf (y .plaque)
+    → modeOf (x .reading) (x .report) ≡ modeOf (y .reading) (y .report) → x ≡ y
+reader-same b x y f g e h =
+    let p = plaque-same b (x .plaque) (y .plaque) (f .plaque) (g .plaque) e in
+    let k = mode-same b (x .reading) (y .reading) (x .report) (y .report) (f .reading) (g .reading) h in
+    let r = report-same (x .report) (y .report) (f .report) (g .report) (k .report) in
+    reader-by p (k .reading) r
+
+-- ---- the plaque memory: it is its regions, one after the other
+part-end : (l : List ℕ) (f t : ℕ) → f ≤ t → take f l ++ slice f t l ≡ take t l
+part-end l f t h = ap (λ (k : List ℕ). k ++ drop f (take t l)) (sym (take-take f t l h)) ∙ take-append-drop f (take t l)
+
+rows-same : (b : Bench) (l k : List ℕ) → ((n : ℕ) → regionOf b l n ≡ regionOf b k n) → (n : ℕ) → take (n * b .region) l ≡ take (n * b .region) k
+unfolding regionOf
+rows-same b l k h zero = let e : 0 * b .region ≡ 0 = zero-mul (b .region) in rw e refl
+rows-same b l k h (suc n) =
+    let f = n * b .region in
+    let t = suc n * b .region in
+    let i : suc n - 1 ≡ n = omega arith in
+    let o : f ≤ t = omega arith in
+    let e : slice f t l ≡ slice f t k =
+    ap (λ (j : ℕ). slice (j * b .region) t l) (sym i) ∙ h (suc n) ∙ ap (λ (j : ℕ). slice (j * b .region) t k) i in
+    sym (part-end l f t o) ∙ ap (λ (u : List ℕ). u ++ slice f t l) (rows-same b l k h n) ∙ ap (λ (u : List ℕ). take f k ++ u) e ∙ part-end k f t o
+
+memory-same : (b : Bench) (l k : List ℕ) → length l ≡ b .readers * b .region → length k ≡ b .readers * b .region
+    → ((n : ℕ) → regionOf b l n ≡ regionOf b k n) → l ≡ k
+memory-same b l k p q h =
+    sym (take-all (b .readers * b .region) l (omega arith)) ∙ rows-same b l k h (b .readers) ∙ take-all (b .readers * b .region) k (omega arith)
+
+-- ---- two machines with one meaning
+-- every index is a reader's, and a node's
+index-reader : (b : Bench) (i : ℕ) → i < b .readers → isReader b (i + 1) ≡ true
+index-reader b i h = both (le-leb 1 (i + 1) (omega arith)) (le-leb (i + 1) (b .readers) (omega arith))
+
+record Numbered (b : Bench) (i : ℕ) : Type 0 where
+  node : ℕ
+  is : isNode b node ≡ true
+  slot : nodeSlot b node ≡ i
+
+index-node : (b : Bench) → Sound b → (i : ℕ) → i < b .readers + 1 → Numbered b i
+index-node b ok i h = go (below-or i (b .readers))
+  where
+    go : (i < b .readers) ⊎ (b .readers ≤ i) → Numbered b i
+    go (inl l) =
+        let r = index-reader b i l in
+        record { node = i + 1; is = reader-node b (i + 1) r; slot = reader-slot b ok (i + 1) r ∙ omega arith }
+    go (inr l) = record { node = hub; is = node-hub b; slot = omega arith }
+
+-- a list has a place for each answer, and 0 past them
+record ListFit (x : Node) : Type 0 where
+  few : x .list .count ≤ most
+  wide : length (x .list .places) ≡ most
+  tail : tailClear x ≡ true
+
+list-fit : (b : Bench) (m : Machine) → Parts b m → (i : ℕ) → i < b .readers + 1 → ListFit (getD (m .state .nodes) i freshNode)
+list-fit b m p i h =
+    let ns = m .state .nodes in
+    let l : i < length ns = omega (arith, p .eachNode) in
+    let f = list-few b (m .store) ns i l (p .lists) _ refl in
+    record { few = f .0; wide = f .1; tail = every-get tailClear ns i freshNode (lists-parts b (m .store) ns (p .lists) .2) l }
+
+known-same : (s t : List ℕ) (x y : Node) → ListFit x → ListFit y → nodeOf s x ≡ nodeOf t y → known s x ≡ known t y
+unfolding known nodeOf tailClear
+known-same s t x y f g e =
+    let a : pendingOf s (x .list) ≡ pendingOf t (y .list) = ap (λ (n : M.Node). n .pending) e in
+    let c : x .list .count ≡ y .list .count =
+    sym (pending-long s (x .list) (omega arith)) ∙ ap length a ∙ pending-long t (y .list) (omega arith) in
+    let l : length (drop (x .list .count) (x .list .places)) ≡ length (drop (y .list .count) (y .list .places)) = simp length-drop (omega arith) in
+    let d = zeros-same _ _ (f .tail) (g .tail) l in
+    known-by (ap (λ (n : M.Node). n .count) e) (ap (λ (n : M.Node). n .handover) e) c a d
+
+module _ (b : Bench) (ok : Sound b) (m n : Machine) (p : Parts b m) (q : Parts b n) (e : meaning b m ≡ meaning b n) where
+  region-each : (k : ℕ) → regionOf b (m .memory) k ≡ regionOf b (n .memory) k
+  unfolding meaning readersOf readerOf
+  region-each k = ap (λ (g : Gateway). g .reader k .region) e
+
+  reader-each : (i : ℕ) → i < b .readers → getD (m .state .readers) i freshReader ≡ getD (n .state .readers) i freshReader
+  unfolding readerOf
+  reader-each i h =
+      let r = index-reader b i h in
+      let s : i + 1 - 1 ≡ i = omega arith in
+      let x : Reader = getD (m .state .readers) (i + 1 - 1) freshReader in
+      let y : Reader = getD (n .state .readers) (i + 1 - 1) freshReader in
+      let z : readerOf x (regionOf b (m .memory) (i + 1)) ≡ readerOf y (regionOf b (n .memory) (i + 1)) =
+      sym (reader-at b m (i + 1) r) ∙ ap (λ (g : Gateway). g .reader (i + 1)) e ∙ reader-at b n (i + 1) r in
+      let w : x ≡ y =
+      reader-same b x y (reader-parts b x (reader-in-order b m (i + 1) r x refl p)) (reader-parts b y (reader-in-order b n (i + 1) r y refl q))
+      (ap (λ (v : M.Reader). v .field) z) (ap (λ (v : M.Reader). v .mode) z) in
+      subst (λ (k : ℕ). getD (m .state .readers) k freshReader ≡ getD (n .state .readers) k freshReader) s w
+
+  node-each : (i : ℕ) → i < b .readers + 1 → known (m .store) (getD (m .state .nodes) i freshNode) ≡ known (n .store) (getD (n .state .nodes) i freshNode)
+  node-each i h =
+      let j = index-node b ok i h in
+      let z : nodeOf (m .store) (getD (m .state .nodes) (nodeSlot b (j .node)) freshNode) ≡ nodeOf (n .store) (getD (n .state .nodes) (nodeSlot b (j .node)) freshNode) =
+      sym (node-at b m (j .node) (j .is)) ∙ ap (λ (g : Gateway). g .nodes (j .node)) e ∙ node-at b n (j .node) (j .is) in
+      known-same (m .store) (n .store) _ _ (list-fit b m p i h) (list-fit b n q i h)
+      (subst (λ (k : ℕ). nodeOf (m .store) (getD (m .state .nodes) k freshNode) ≡ nodeOf (n .store) (getD (n .state .nodes) k freshNode)) (j .slot) z)
+
+  known-each : (i : ℕ) → i < b .readers + 1
+      → getD (map (known (m .store)) (m .state .nodes)) i (known [] freshNode) ≡ getD (map (known (n .store)) (n .state .nodes)) i (known [] freshNode)
+  known-each i h =
+      let a : i < length (map (known (m .store)) (m .state .nodes)) = rw length-map (omega (arith, p .eachNode)) in
+      let c : i < length (map (known (n .store)) (n .state .nodes)) = rw length-map (omega (arith, q .eachNode)) in
+      getD-any (map (known (m .store)) (m .state .nodes)) i (known [] freshNode) (known (m .store) freshNode) a
+      ∙ List·getD-map (known (m .store)) (m .state .nodes) i freshNode ∙ node-each i h ∙ sym (List·getD-map (known (n .store)) (n .state .nodes) i freshNode)
+      ∙ getD-any (map (known (n .store)) (n .state .nodes)) i (known (n .store) freshNode) (known [] freshNode) c
+
+  pub same-means : Alike m n
+  unfolding meaning
+  same-means =
+      let l : length (map (known (m .store)) (m .state .nodes)) ≡ b .readers + 1 = rw length-map (p .eachNode) in
+      let k : length (map (known (n .store)) (n .state .nodes)) ≡ b .readers + 1 = rw length-map (q .eachNode) in
+      record {
+        name = name-same (m .state .name) (n .state .name) (p .name) (q .name) (p .wide) (q .wide) (ap (λ (g : Gateway). g .name) e);
+        readers = ext-getD freshReader (m .state .readers) (n .state .readers) (p .eachReader ∙ sym (q .eachReader))
+            (λ i h. reader-each i (omega (arith, p .eachReader)));
+        memory = memory-same b (m .memory) (n .memory) (p .memory) (q .memory) region-each;
+        nodes = ext-getD (known [] freshNode) _ _ (l ∙ sym k) (λ i h. known-each i (omega arith));
+        stored = p .store ∙ sym (q .store);
+      }
+
+alike-refl : (m n : Machine) → m ≡ n → Alike m n
+alike-refl m n e = subst (Alike m) e (record { name = refl; readers = refl; memory = refl; nodes = refl; stored = refl })
+
+module _ (b : Bench) (ok : Sound b) where
+  pub only-does : (o : Outcome) (m : Machine) (s₁ s₂ : Said) (m₁ m₂ : Machine) → Does b o m s₁ m₁ → Does b o m s₂ m₂ → (s₁ ≡ s₂) × Alike m₁ m₂
+  only-does o m s₁ s₂ m₁ m₂ p q = let e : s₁ ≡ s₂ = p .says ∙ sym (q .says) in (e, go (turned s₁) refl e)
+    where
+      go : (t : Bool) → turned s₁ ≡ t → s₁ ≡ s₂ → Alike m₁ m₂
+      go true f e = alike-refl m₁ m₂ (p .refusal f ∙ sym (q .refusal (ap turned (sym e) ∙ f)))
+      go false f e =
+          let h : turned s₂ ≡ false = ap turned (sym e) ∙ f in
+          same-means b ok m₁ m₂ (parts b m₁ (p .sound f)) (parts b m₂ (q .sound h)) (p .means f ∙ sym (q .means h))
+
+  pub only : (c : Call) (m : Machine) (s₁ s₂ : Said) (m₁ m₂ : Machine) → Obeyed b c m s₁ m₁ → Obeyed b c m s₂ m₂ → (s₁ ≡ s₂) × Alike m₁ m₂
+  only c m s₁ s₂ m₁ m₂ p q = only-does _ m s₁ s₂ m₁ m₂ p q
+
+  -- the code's reply is fixed by what is said
+  unspoken : Said → Reply
+  unspoken (refused k) = Reply.Refused k
+  unspoken (answered done) = Reply.Done
+  unspoken (answered quiet) = Reply.Quiet
+  unspoken (answered (handed ws h)) = Reply.Done
+  unspoken queued = Reply.Queued
+
+  back : (r : Reply) → unspoken (spoken r) ≡ r
+  unfolding spoken unspoken
+  back (Reply.Refused k) = refl
+  back Reply.Done = refl
+  back Reply.Quiet = refl
+  back Reply.Queued = refl
+
+  pub only-reply : (c : Call) (m : Machine) (r₁ r₂ : Reply) (m₁ m₂ : Machine) → Obeyed b c m (spoken r₁) m₁ → Obeyed b c m (spoken r₂) m₂
+      → (r₁ ≡ r₂) × Alike m₁ m₂
+  only-reply c m r₁ r₂ m₁ m₂ p q =
+      let o = only c m (spoken r₁) (spoken r₂) m₁ m₂ p q in (sym (back r₁) ∙ ap unspoken (o .0) ∙ back r₂, o .1)
+
+  -- collect: one reply, one content of the lent output
+  pub only-collect : (c : Call) (m : Machine) (r₁ r₂ : Handout) (out o₁ o₂ : List ℕ) → O.Collects b c m r₁ out o₁ → O.Collects b c m r₂ out o₂
+      → (r₁ ≡ r₂) × (o₁ ≡ o₂)
+  only-collect c m r₁ r₂ out o₁ o₂ p q = (p .reply ∙ sym (q .reply), p .output ∙ sym (q .output))

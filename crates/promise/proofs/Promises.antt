@@ -1,0 +1,80 @@
+-- How a promise is kept: once for every call. What is lent is at fault; the meaning refuses; the meaning says something else.
+-- Assumes nothing.
+use Prim.Native.Nat.{ℕ}
+use mathlib.Core.Path.{_≡_, refl, sym, ap, _∙_, subst}
+use mathlib.Core.Bool.{Bool, true, false, cond, true≢false}
+use borrow.Author.Tests.{eq-eqb, ne-eqb}
+use Rattle.units.proofs.Choice.{yes-cond, no-cond}
+use Rattle.meaning.specs.Bench.{Bench, hub}
+use Rattle.meaning.specs.Gateway.{Reader, Gateway, setReader}
+use Rattle.meaning.specs.Call.{Call, Said, refused, answered, queued, Result, Outcome, Local, Desk, fromDesk, lifted, settled, step}
+use Rattle.state.specs.Machine.{Machine, meaning}
+use Rattle.state.specs.Consistent.{unfit}
+use Rattle.promise.specs.Obeyed.{spoken, turned, Does, expected, Obeyed}
+use Rattle.promise.specs.declared.Reply.{Reply}
+use Rattle.promise.proofs.Parts.{Means}
+
+abbrev pub saying : Said → Gateway → Outcome
+saying s g = record { said = s; next = g }
+
+module _ (b : Bench) (m : Machine) where
+  -- ---- an outcome of the meaning
+  pub does-refused : (k : ℕ) → Does b (saying (refused k) (meaning b m)) m (refused k) m
+  unfolding turned
+  does-refused k = record { says = refl; refusal = λ _. refl; sound = λ f. absurd (true≢false f); means = λ f. absurd (true≢false f) }
+
+  pub does-said : (s : Said) (g : Gateway) (m′ : Machine) → turned s ≡ false → Means b m′ g → Does b (saying s g) m s m′
+  does-said s g m′ t h = record {
+    says = refl;
+    refusal = λ f. absurd (true≢false (sym f ∙ t));
+    sound = λ _. h .fit;
+    means = λ _. h .means;
+  }
+
+  -- ---- a call: what is lent is at fault ..
+  pub unlent : (c : Call) (k : ℕ) → unfit b m ≡ k → (k ≡ 0 → ⊥) → Obeyed b c m (refused k) m
+  unfolding expected
+  unlent c k e n =
+      let o : expected b c m ≡ saying (refused k) (meaning b m) =
+      no-cond _ (ne-eqb (unfit b m) 0 (λ z. n (sym e ∙ z))) ∙ ap (λ (j : ℕ). saying (refused j) (meaning b m)) e in
+      subst (λ (o : Outcome). Does b o m (refused k) m) (sym o) (does-refused k)
+
+  -- .. or it is not, and the promise is of the meaning's step
+  module _ (c : Call) (fit : unfit b m ≡ 0) where
+    pub by-step : {o : Outcome} {s : Said} {m′ : Machine} → step b (meaning b m) c ≡ o → Does b o m s m′ → Obeyed b c m s m′
+    unfolding expected
+    by-step {s = s} {m′ = m′} e d = subst (λ (o : Outcome). Does b o m s m′) (sym (yes-cond _ (eq-eqb _ _ fit) ∙ e)) d
+
+    pub turning : (k : ℕ) → step b (meaning b m) c ≡ saying (refused k) (meaning b m) → Obeyed b c m (refused k) m
+    turning k e = by-step e (does-refused k)
+
+    pub obeying : (s : Said) (g : Gateway) (m′ : Machine) → turned s ≡ false → step b (meaning b m) c ≡ saying s g → Means b m′ g → Obeyed b c m s m′
+    obeying s g m′ t e h = by-step e (does-said s g m′ t h)
+
+-- ---- what its own node makes of a call: l, at node n, where `into` puts the changed part back
+abbrev pub Locally : {A : Type 0} → Bench → Machine → (A → Gateway → Gateway) → ℕ → Local A → Said → Machine → Type 0
+Locally b m into n l s m′ = Does b (settled b (meaning b m) (lifted into n (meaning b m) l)) m s m′
+
+-- .. at a reader, and at the gateway's own node
+abbrev pub AtReader : Bench → Machine → ℕ → Local Reader → Said → Machine → Type 0
+AtReader b m n l s m′ = Locally b m (setReader n) n l s m′
+
+abbrev pub AtHub : Bench → Machine → Local Desk → Said → Machine → Type 0
+AtHub b m l s m′ = Locally b m fromDesk hub l s m′
+
+-- it refuses, or gives a result with no answer
+module _ {A : Type 0} (b : Bench) (m : Machine) (into : A → Gateway → Gateway) (n : ℕ) {l : Local A} where
+  pub refusing : {k : ℕ} → l ≡ Local.refuse k → Locally b m into n l (refused k) m
+  unfolding lifted settled
+  refusing {k} e = subst (λ (l : Local A). Locally b m into n l (refused k) m) (sym e) (does-refused b m k)
+
+  pub giving : {r : Result} {a : A} → l ≡ Local.give r a → (m′ : Machine) → Means b m′ (into a (meaning b m)) → Locally b m into n l (answered r) m′
+  unfolding lifted settled turned
+  giving {r} {a} e m′ h =
+      subst (λ (l : Local A). Locally b m into n l (answered r) m′) (sym e) (does-said b m (answered r) (into a (meaning b m)) m′ refl h)
+
+-- what the code replies where an answer was due, with no other effect
+pub spoken-either : (room : Bool) → spoken (cond room Reply.Queued (Reply.Refused 13)) ≡ cond room queued (refused 13)
+unfolding spoken
+spoken-either true = refl
+spoken-either false = refl

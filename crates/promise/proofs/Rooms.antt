@@ -1,0 +1,177 @@
+-- An answer joins: its room, as the meaning judges it and as the code does over the held words; and what the machine means after.
+-- Assumes nothing.
+use Prim.Native.Nat.{ℕ, zero, suc, _+_, _-_, _≤_, max}
+use mathlib.Core.Path.{_≡_, refl, sym, ap, _∙_, subst}
+use mathlib.Core.Bool.{Bool, true, _&&_}
+use mathlib.Core.List.{List, [], _∷_, map}
+use native.Mathlib.Omega.{arith}
+use lib.Dec.{leb}
+use lib.ListN.{length, getD, take, set, length-map, length-set, List·getD-map}
+use lib.Seq.{take-all}
+use borrow.Author.Tests.{le-leb}
+use Rattle.units.specs.Count.{every}
+use Rattle.units.proofs.Choice.{yes-cond}
+use Rattle.meaning.specs.Bench.{Bench, hub, isReader, isNode}
+use Rattle.meaning.specs.Packet.{wordNo}
+use Rattle.meaning.specs.Gateway as M
+use Rattle.meaning.specs.Gateway.{Gateway, joined, join}
+use Rattle.meaning.specs.Room.{added, held, shareOf, charge, total, charges, fits}
+use Rattle.demands.specs.Sound.{Sound}
+use Rattle.demands.proofs.Room.{put-same, held-joined}
+use Rattle.state.specs.Machine.{Machine, machine, meaning, seen, nodeSlot, nodesOf, readersOf, nodeOf, plain}
+use Rattle.state.specs.Consistent.{heldsOf, chargesOf, nodeOk}
+use Rattle.state.specs.declared.node.Node.{Node}
+use Rattle.state.specs.declared.State.{State}
+use Rattle.state.proofs.Lists.{map-set, every-get}
+use Rattle.lists.specs.Room.{roomFor}
+use Rattle.lists.proofs.Charges.{charges-more}
+use Rattle.store.specs.Joined.{Added}
+use Rattle.store.proofs.Every.{both, every-set}
+use Rattle.store.proofs.Rooms.{helds-mean}
+use Rattle.promise.proofs.Parts.{Parts, fit, Means}
+use Rattle.promise.proofs.Tables.{seen-set, node-inj, node-inside, reader-node, reader-slot, node-hub}
+
+-- ---- charges, node by node and as a list
+total-same : (n : ℕ) (f g : ℕ → ℕ) → ((k : ℕ) → 1 ≤ k → k ≤ n → f k ≡ g k) → total n f ≡ total n g
+unfolding total
+total-same zero f g h = refl
+total-same (suc n) f g h = rw (total-same n f g (λ k a b. h k a (omega arith)), h (suc n) (omega arith) (omega arith))
+
+module _ (share : ℕ) where
+  total-take : (hs : List ℕ) (n : ℕ) → n ≤ length hs → total n (λ k. max share (getD hs (k - 1) 0)) ≡ chargesOf share (take n hs)
+  unfolding total chargesOf
+  total-take hs zero h = refl
+  total-take hs (suc n) h =
+      let e : suc n - 1 ≡ n = omega arith in
+      rw (e, total-take hs n (omega arith), charges-more share hs n (omega arith))
+
+  charges-list : (hs : List ℕ) (n : ℕ) → length hs ≡ n + 1
+      → total n (λ k. max share (getD hs (k - 1) 0)) + max share (getD hs n 0) ≡ chargesOf share hs
+  charges-list hs n l =
+      let e : take (suc n) hs ≡ hs = take-all (suc n) hs (omega arith) in
+      rw (total-take hs n (omega arith), ← charges-more share hs n (omega arith), e)
+
+module _ (b : Bench) (ok : Sound b) (g : Gateway) (ns : List M.Node) (long : length ns ≡ b .readers + 1)
+    (table : g .nodes ≡ seen (isNode b) (nodeSlot b) plain ns) where
+  abbrev helds : List ℕ
+  helds = map held ns
+
+  charge-at : (k : ℕ) → isNode b k ≡ true → charge b (g .nodes k) ≡ max (b .share) (getD helds (nodeSlot b k) 0)
+  unfolding charge shareOf seen added
+  charge-at k p =
+      ap (λ (f : ℕ → M.Node). max (b .share) (held (f k))) table
+      ∙ ap (λ (x : M.Node). max (b .share) (held x)) (yes-cond plain p)
+      ∙ ap (max (b .share)) (sym (List·getD-map held ns (nodeSlot b k) plain))
+
+  charges-table : charges b g ≡ chargesOf (b .share) helds
+  unfolding charges
+  charges-table =
+      let r : (k : ℕ) → 1 ≤ k → k ≤ b .readers → charge b (g .nodes k) ≡ max (b .share) (getD helds (k - 1) 0) =
+      λ k l h. let p : isReader b k ≡ true = both (le-leb 1 k l) (le-leb k (b .readers) h) in
+      charge-at k (reader-node b k p) ∙ ap (λ (i : ℕ). max (b .share) (getD helds i 0)) (reader-slot b ok k p) in
+      let h : charge b (g .nodes hub) ≡ max (b .share) (getD helds (b .readers) 0) = charge-at hub (node-hub b) in
+      let e : total (b .readers) (λ k. charge b (g .nodes k)) ≡ total (b .readers) (λ k. max (b .share) (getD helds (k - 1) 0)) =
+      total-same (b .readers) (λ k. charge b (g .nodes k)) (λ k. max (b .share) (getD helds (k - 1) 0)) r in
+      let l : length helds ≡ b .readers + 1 = rw length-map long in
+      let z = charges-list (b .share) helds (b .readers) l in
+      omega arith
+
+-- ---- the table of nodes with an answer joined at node n
+module _ (b : Bench) (m : Machine) (n : ℕ) (w : List ℕ) (is : isNode b n ≡ true) (p : Parts b m) where
+  abbrev ns : List M.Node
+  ns = map (nodeOf (m .store)) (m .state .nodes)
+
+  abbrev i : ℕ
+  i = nodeSlot b n
+
+  many : length ns ≡ b .readers + 1
+  many = rw length-map (p .eachNode)
+
+  node-in : meaning b m .nodes n ≡ getD ns i plain
+  unfolding meaning nodesOf seen
+  node-in = yes-cond plain is
+
+  held-in : held (meaning b m .nodes n) ≡ getD (heldsOf (m .store) (m .state .nodes)) i 0
+  unfolding added
+  held-in =
+      ap held node-in ∙ sym (List·getD-map held ns i plain)
+      ∙ ap (λ (hs : List ℕ). getD hs i 0) (sym (helds-mean (m .store) (m .state .nodes)))
+
+  join-table : (join n w (meaning b m)) .nodes ≡ seen (isNode b) (nodeSlot b) plain (set ns i (joined w (meaning b m .nodes n)))
+  unfolding meaning nodesOf
+  join-table =
+      sym (seen-set (isNode b) (nodeSlot b) plain ns n (joined w (seen (isNode b) (nodeSlot b) plain ns n)) is
+      (node-inside b n (length ns) is many) (λ k q r. node-inj b k n is q r))
+
+  -- "An answer has room exactly when": the meaning's test is the code's
+  pub room-same : Sound b → wordNo 1 w ≡ length w
+      → fits b n (join n w (meaning b m)) ≡ roomFor b (heldsOf (m .store) (m .state .nodes)) (nodeSlot b n) (length w)
+  unfolding fits roomFor
+  room-same ok e =
+      let hs : List ℕ = heldsOf (m .store) (m .state .nodes) in
+      let y : M.Node = joined w (meaning b m .nodes n) in
+      let z : map held ns ≡ hs = sym (helds-mean (m .store) (m .state .nodes)) in
+      let a : held y ≡ getD hs i 0 + length w =
+      held-joined w (meaning b m .nodes n) ∙ ap (λ (k : ℕ). held (meaning b m .nodes n) + k) e ∙ ap (λ (k : ℕ). k + length w) held-in in
+      let c : charges b (join n w (meaning b m)) ≡ chargesOf (b .share) (set hs i (getD hs i 0 + length w)) =
+      charges-table b ok (join n w (meaning b m)) (set ns i y) (length-set ns i y ∙ many) join-table
+      ∙ ap (chargesOf (b .share)) (map-set held ns i y ∙ ap (λ (l : List ℕ). set l i (held y)) z ∙ ap (set hs i) a) in
+      let d : held ((join n w (meaning b m)) .nodes n) ≡ getD hs i 0 + length w = ap held (put-same n y (meaning b m .nodes)) ∙ a in
+      ap (λ (k : ℕ). leb k (b .limit) && leb (charges b (join n w (meaning b m))) (b .store)) d
+      ∙ ap (λ (k : ℕ). leb (getD hs i 0 + length w) (b .limit) && leb k (b .store)) c
+
+  -- ---- an answer that the code added is an answer joined
+  module _ (store′ : List ℕ) (s′ : State) (a : Added b (m .store) store′ (m .state) s′ (nodeSlot b n) w) where
+    pub added-means : meaning b (machine s′ store′ (m .memory)) ≡ join n w (meaning b m)
+    unfolding meaning nodesOf
+    added-means =
+        let e : seen (isNode b) (nodeSlot b) plain (map (nodeOf store′) (s′ .nodes)) ≡ (join n w (meaning b m)) .nodes =
+        ap (seen (isNode b) (nodeSlot b) plain) (a .nodes ∙ ap (λ (x : M.Node). set ns i (joined w x)) (sym node-in)) ∙ sym join-table in
+        ap (λ (t : State). record {
+          name = take (t .name .length .0) (t .name .bytes);
+          nodes = nodesOf b store′ (s′ .nodes);
+          reader = readersOf b (m .memory) (t .readers);
+        })
+        (a .rest)
+        ∙ ap (λ (f : ℕ → M.Node). record {
+          name = take (m .state .name .length .0) (m .state .name .bytes);
+          nodes = f;
+          reader = readersOf b (m .memory) (m .state .readers);
+        })
+        e
+
+    pub added-fit : Parts b (machine s′ store′ (m .memory))
+    unfolding every nodeOk nodeOf joined
+    added-fit =
+        subst (λ (t : State). Parts b (machine t store′ (m .memory))) (sym (a .rest)) (record {
+          store = a .long ∙ p .store;
+          memory = p .memory;
+          lists = a .lists;
+          nodes = after;
+          readers = p .readers;
+          name = p .name;
+          wide = p .wide;
+          eachReader = p .eachReader;
+          eachNode = count;
+        })
+      where
+        handed : M.Node → Bool
+        handed x = leb 1 (x .handover)
+
+        handovers : (store : List ℕ) (l : List Node) → every nodeOk l ≡ every handed (map (nodeOf store) l)
+        handovers store [] = refl
+        handovers store (x ∷ l) = ap (λ t. handed (nodeOf store x) && t) (handovers store l)
+
+        after : every nodeOk (s′ .nodes) ≡ true
+        after =
+            let o : every handed ns ≡ true = sym (handovers (m .store) (m .state .nodes)) ∙ p .nodes in
+            handovers store′ (s′ .nodes) ∙ ap (every handed) (a .nodes)
+            ∙ every-set handed ns i (joined w (getD ns i plain)) o (every-get handed ns i plain o (node-inside b n (length ns) is many))
+
+        count : length (s′ .nodes) ≡ b .readers + 1
+        count =
+            let e : length (map (nodeOf store′) (s′ .nodes)) ≡ b .readers + 1 = ap length (a .nodes) ∙ length-set ns i (joined w (getD ns i plain)) ∙ many in
+            rw length-map at e
+
+    pub added-changed : Means b (machine s′ store′ (m .memory)) (join n w (meaning b m))
+    added-changed = record { fit = fit b _ added-fit; means = added-means }

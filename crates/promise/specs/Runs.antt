@@ -1,0 +1,43 @@
+-- Calls one after the other, each on the machine that the one before left.
+-- Assumes nothing.
+use Prim.Native.Nat.{ℕ}
+use mathlib.Core.List.{List, [], _∷_, map}
+use Rattle.meaning.specs.Bench.{Bench}
+use Rattle.meaning.specs.Call.{Call, Said}
+use Rattle.state.specs.State.{freshState}
+use Rattle.state.specs.Machine.{Machine, machine, meaning}
+use Rattle.demands.specs.Demand.{Line}
+use Rattle.promise.specs.Obeyed.{Obeyed}
+
+pub record Heard : Type 0 where
+  pub call : Call
+  pub said : Said
+  pub after : Machine
+
+unfoldable pub Chain : Bench → Machine → List Heard → Type 0
+Chain b m [] = Unit
+Chain b m (h ∷ hs) = Obeyed b (h .call) m (h .said) (h .after) × Chain b (h .after) hs
+
+unfoldable pub ended : Machine → List Heard → Machine
+ended m [] = m
+ended m (h ∷ hs) = ended (h .after) hs
+
+abbrev pub calls : List Heard → List Call
+calls hs = map (λ h. h .call) hs
+
+-- a chain as demand 3 compares it: the lines of reader i
+unfoldable pub lines : Bench → ℕ → List Heard → List Line
+lines b i [] = []
+lines b i (h ∷ hs) =
+    record {
+      call = h .call;
+      said = h .said;
+      node = meaning b (h .after) .nodes i;
+      reader = meaning b (h .after) .reader i;
+      name = meaning b (h .after) .name;
+    }
+    ∷ lines b i hs
+
+-- where every chain starts: a fresh state, with whatever the lent store and plaque memory hold
+abbrev pub freshMachine : List ℕ → List ℕ → Machine
+freshMachine store memory = machine freshState store memory

@@ -1,0 +1,5 @@
+-- Laws that belong to no one function.
+pub mod Lists
+pub mod Reports
+pub mod Formed
+pub mod InOrder

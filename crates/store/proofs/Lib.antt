@@ -1,0 +1,10 @@
+pub mod Every
+pub mod Answers
+pub mod Order
+pub mod Laid
+pub mod Runs
+pub mod Rooms
+pub mod Tops
+pub mod Joins
+pub mod Taken
+pub mod Swept
