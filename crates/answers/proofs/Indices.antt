@@ -1,0 +1,60 @@
+-- Where readers and nodes stand in the state's arrays, and what stands there.
+-- Assumes nothing.
+use Prim.Native.Nat.{ℕ, _-_, _≤_, _<_}
+use mathlib.Core.Path.{_≡_, refl, sym, ap, _∙_}
+use mathlib.Core.Bool.{Bool, true, false, cond}
+use mathlib.Core.List.{List, []}
+use native.Mathlib.Omega.{arith}
+use lib.ListN.{getD}
+use borrow.Author.Tests.{ne-eqb}
+use Rattle.units.proofs.Choice.{no-cond}
+use Rattle.meaning.specs.Bench.{full, hub, isReader}
+use Rattle.meaning.specs.Gateway as M
+use Rattle.state.specs.State.{freshReader, freshNode}
+use Rattle.state.specs.Machine.{Machine, meaning, nodeSlot, nodeOf}
+use Rattle.state.specs.Consistent.{unfit}
+use Rattle.state.specs.declared.reader.Reader.{Reader}
+use Rattle.state.specs.declared.node.Node.{Node}
+use Rattle.state.proofs.Lists.{getD-any}
+use Rattle.store.proofs.Laid.{blank}
+use Rattle.promise.proofs.Parts.{parts}
+use Rattle.promise.proofs.Tables.{reader-range, reader-node, node-at}
+
+-- ---- what `reader_slot` says of a node: past the array, it is no reader; inside, it is one, and this is its index
+module _ (n i : ℕ) (e : i ≡ cond (isReader full n) (n - 1) 16) where
+  pub slot-out : 16 ≤ i → isReader full n ≡ false
+  slot-out h = go (isReader full n) refl e
+    where
+      go : (t : Bool) → isReader full n ≡ t → i ≡ cond t (n - 1) 16 → isReader full n ≡ false
+      go true f p = let r = reader-range full n f in absurd (omega arith)
+      go false f p = f
+
+  pub slot-in : i < 16 → (isReader full n ≡ true) × (i ≡ n - 1)
+  slot-in h = go (isReader full n) refl e
+    where
+      go : (t : Bool) → isReader full n ≡ t → i ≡ cond t (n - 1) 16 → (isReader full n ≡ true) × (i ≡ n - 1)
+      go true f p = (f, p)
+      go false f p = absurd (omega arith)
+
+-- ---- what code reads at the index of a reader, of a node; `blankReader` is what it would read past the array's end
+abbrev pub blankReader : Reader
+blankReader = record {
+  plaque = record { present = false; id = []; length = record { 0 = 0 } };
+  reading = record { start = 0; size = record { 0 = 0 }; delay = 0 };
+  report = record { kept = false; id = []; clock = 0 };
+}
+
+module _ (m : Machine) (n i : ℕ) (fit : unfit full m ≡ 0) (is : isReader full n ≡ true) (at : i ≡ n - 1) where
+  pub reader-there : getD (m .state .readers) (n - 1) freshReader ≡ getD (m .state .readers) i blankReader
+  reader-there =
+      ap (λ (k : ℕ). getD (m .state .readers) k freshReader) (sym at)
+      ∙ getD-any (m .state .readers) i freshReader blankReader (omega (arith, parts full m fit .eachReader, reader-range full n is))
+
+  -- the count that its next answer bears
+  pub count-there : meaning full m .nodes n .count ≡ getD (m .state .nodes) i blank .instance
+  unfolding nodeOf
+  count-there =
+      let r = reader-range full n is in
+      let slot : nodeSlot full n ≡ i = no-cond 16 (ne-eqb n hub (λ e. absurd (omega arith))) ∙ sym at in
+      ap (λ (x : M.Node). x .count) (node-at full m n (reader-node full n is)) ∙ ap (λ (k : ℕ). getD (m .state .nodes) k freshNode .instance) slot
+      ∙ ap (λ (x : Node). x .instance) (getD-any (m .state .nodes) i freshNode blank (omega (arith, parts full m fit .eachNode)))

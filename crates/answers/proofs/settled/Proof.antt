@@ -1,0 +1,11 @@
+use Rattle.answers.proofs.settled.Statement.{statement}
+use Rattle.answers.proofs.settled.Tie as tie
+
+returns : tie.Need-returns
+returns c = simp (c .if1 .taken)
+
+returns-2 : tie.Need-returns-2
+returns-2 c = simp (c .if1 .left)
+
+pub settled-spec : {M : Type 1} → statement M
+settled-spec = tie.close (tie.spec returns returns-2)

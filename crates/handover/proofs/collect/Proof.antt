@@ -1,0 +1,183 @@
+use borrow.Author.Needs.{needs}
+use native.Mathlib.Omega.{arith}
+use Prim.Native.Nat.{ℕ}
+use mathlib.Core.Path.{_≡_, sym, ap, _∙_}
+use mathlib.Core.List.{List, _∷_}
+use mathlib.Core.Bool.{true, false}
+use lib.ListN.{length, getD, set, length-set}
+use Rattle.units.specs.Word.{word}
+use Rattle.meaning.specs.Bench.{full}
+use Rattle.meaning.specs.Response.{bears}
+use Rattle.state.specs.Machine.{Machine, machine, answerAt}
+use Rattle.state.proofs.Formed.{Lies, answer-length}
+use Rattle.store.specs.Layout.{putIn}
+use Rattle.promise.proofs.Parts.{parts}
+use Rattle.promise.proofs.Oldest.{oldest-lies, collected-7, collected-14, collected-16, collected-0, shown-headed, shown-bare, bare-written, headed-written}
+use Rattle.handover.proofs.Served.{slot-out, slot-in}
+use Rattle.handover.proofs.collect.Statement.{statement}
+use Rattle.handover.proofs.collect.Tie as tie
+
+-- the oldest answer lies in the store
+here : (c : tie.Else2) → Lies full (c .before .before .before .before .before .before .before .before .args .store .now) (c .before .before .before .before .node-slot .result) (getD (c .before .before .node-of .result .list .places) 0 0)
+here c =
+    let a = c .before .before .before .before .before .before .before .before .args in
+    let m : Machine = machine (a .s) (a .store .now) (a .plaques .now) in
+    let p = slot-in (a .node) (c .before .before .before .before .node-slot .result) (c .before .before .before .before .node-slot .ensures) (c .before .before .before .if1 .left) in
+    oldest-lies full m (c .before .before .before .before .before .before .before .before .pre) (a .node) (c .before .before .before .before .node-slot .result) (p .0) (p .1) (c .before .before .node-of .result) (sym (c .before .before .node-of .ensures)) (omega arith)
+
+-- the store's length
+stored : (c : tie.Start) → length (c .args .store .now) ≡ 4096
+stored c = parts full (machine (c .args .s) (c .args .store .now) (c .args .plaques .now)) (c .pre) .store
+
+node-slot-requires : tie.Need-node-slot-requires
+node-slot-requires c κs = search needs
+
+returns : tie.Need-returns
+returns c =
+    let a = c .before .before .before .before .before .args in
+    let m : Machine = machine (a .s) (a .store .now) (a .plaques .now) in
+    collected-7 full m (a .form) (a .node) (length (a .out .now)) (c .before .before .before .before .before .pre) (a .out .now) (slot-out (a .node) (c .before .node-slot .result) (c .before .node-slot .ensures) (c .if1 .taken))
+
+node-of-requires : tie.Need-node-of-requires
+node-of-requires c κs = search needs
+
+returns-2 : tie.Need-returns-2
+returns-2 c =
+    let a = c .before .before .before .before .before .before .before .before .args in
+    let m : Machine = machine (a .s) (a .store .now) (a .plaques .now) in
+    let p = slot-in (a .node) (c .before .before .before .before .node-slot .result) (c .before .before .before .before .node-slot .ensures) (c .before .before .before .if1 .left) in
+    collected-14 full m (a .form) (a .node) (length (a .out .now)) (c .before .before .before .before .before .before .before .before .pre) (c .before .before .before .before .node-slot .result) (p .0) (p .1) (c .before .before .node-of .result) (sym (c .before .before .node-of .ensures)) (a .out .now) (c .if2 .taken)
+
+element-copy-out-place : tie.Need-element-copy-out-place
+element-copy-out-place c = search needs
+
+cast-place : tie.Need-cast-place
+cast-place c = search needs
+
+mul-words : tie.Need-mul-words
+mul-words c =
+    let h = here (c .before) in
+    let l = stored (c .before .before .before .before .before .before .before .before .before) in
+    record { fits = omega (arith, h .inside) }
+
+shared-slice-read-words : tie.Need-shared-slice-read-words
+shared-slice-read-words c =
+    let h = here (c .before .before) in
+    let l = stored (c .before .before .before .before .before .before .before .before .before .before) in
+    omega (arith, h .inside, h .least)
+
+cast-words : tie.Need-cast-words
+cast-words c =
+    let h = here (c .before .before) in
+    let l = stored (c .before .before .before .before .before .before .before .before .before .before) in
+    record { fits = omega (arith, h .most) }
+
+bears-requires : tie.Need-bears-requires
+bears-requires c κs = search needs
+
+add-if4 : tie.Need-add-if4
+add-if4 c =
+    let h = here (c .before .before .before .before) in
+    let l = stored (c .before .before .before .before .before .before .before .before .before .before .before .before) in
+    record { fits = omega (arith, h .most) }
+
+returns-3 : tie.Need-returns-3
+returns-3 c =
+    let a = c .before .before .before .before .before .before .before .before .before .before .before .before .before .args in
+    let m : Machine = machine (a .s) (a .store .now) (a .plaques .now) in
+    let p = slot-in (a .node) (c .before .before .before .before .before .before .before .before .before .node-slot .result) (c .before .before .before .before .before .before .before .before .before .node-slot .ensures) (c .before .before .before .before .before .before .before .before .if1 .left) in
+    let h = here (c .before .before .before .before .before) in
+    let w : List ℕ = answerAt (a .store .now) (getD (c .before .before .before .before .before .before .before .node-of .result .list .places) 0 0) in
+    let l : length w ≡ getD (a .store .now) (getD (c .before .before .before .before .before .before .before .node-of .result .list .places) 0 0) 0 = answer-length (a .store .now) (getD (c .before .before .before .before .before .before .before .node-of .result .list .places) 0 0) (h .inside) in
+    let g : bears (a .form) (a .node) ≡ true = sym (c .before .before .bears .ensures) ∙ c .before .if3 .taken in
+    collected-16 full m (a .form) (a .node) (length (a .out .now)) (c .before .before .before .before .before .before .before .before .before .before .before .before .before .pre) (c .before .before .before .before .before .before .before .before .before .node-slot .result) (p .0) (p .1) (c .before .before .before .before .before .before .before .node-of .result) (sym (c .before .before .before .before .before .before .before .node-of .ensures)) (omega arith) (word 0xFF (a .node) ∷ w) (shown-headed (a .form) (a .node) w g) (a .out .now) (omega arith)
+
+word-requires : tie.Need-word-requires
+word-requires c κs = search needs
+
+slice-write-out : tie.Need-slice-write-out
+slice-write-out c = search needs
+
+copy-answer-requires : tie.Need-copy-answer-requires
+copy-answer-requires c κs =
+    let a = c .before .before .before .before .before .before .before .before .before .before .before .before .before .before .before .args in
+    let h = here (c .before .before .before .before .before .before .before) in
+    let e : length (set (a .out .now) 0 (c .before .word .result)) ≡ length (a .out .now) = length-set (a .out .now) 0 (c .before .word .result) in
+    (h .inside, omega (arith, h .least), omega arith)
+
+add-t19 : tie.Need-add-t19
+add-t19 c = search needs
+
+same-length : tie.Need-same-length
+same-length c = c .before .before .copy-answer .kept .1 .1 .0 ∙ length-set (c .before .before .before .before .before .before .before .before .before .before .before .before .before .before .before .before .before .before .args .out .now) 0 (c .before .before .before .before .word .result)
+
+returns-4 : tie.Need-returns-4
+returns-4 c =
+    let a = c .before .before .before .before .before .before .before .before .before .before .before .before .before .before .before .before .before .before .args in
+    let m : Machine = machine (a .s) (a .store .now) (a .plaques .now) in
+    let p = slot-in (a .node) (c .before .before .before .before .before .before .before .before .before .before .before .before .before .before .node-slot .result) (c .before .before .before .before .before .before .before .before .before .before .before .before .before .before .node-slot .ensures) (c .before .before .before .before .before .before .before .before .before .before .before .before .before .if1 .left) in
+    let h = here (c .before .before .before .before .before .before .before .before .before .before) in
+    let w : List ℕ = answerAt (a .store .now) (getD (c .before .before .before .before .before .before .before .before .before .before .before .before .node-of .result .list .places) 0 0) in
+    let l : length w ≡ getD (a .store .now) (getD (c .before .before .before .before .before .before .before .before .before .before .before .before .node-of .result .list .places) 0 0) 0 = answer-length (a .store .now) (getD (c .before .before .before .before .before .before .before .before .before .before .before .before .node-of .result .list .places) 0 0) (h .inside) in
+    let g : bears (a .form) (a .node) ≡ true = sym (c .before .before .before .before .before .before .before .bears .ensures) ∙ c .before .before .before .before .before .before .if3 .taken in
+    let q : c .before .before .copy-answer .last .1 .1 .0 ≡ putIn (set (a .out .now) 0 (word 0xFF (a .node))) 1 w = c .before .before .copy-answer .ensures ∙ ap (λ (k : ℕ). putIn (set (a .out .now) 0 k) 1 w) (c .before .before .before .before .word .ensures) in
+    collected-0 full m (a .form) (a .node) (length (a .out .now)) (c .before .before .before .before .before .before .before .before .before .before .before .before .before .before .before .before .before .before .pre) (c .before .before .before .before .before .before .before .before .before .before .before .before .before .before .node-slot .result) (p .0) (p .1) (c .before .before .before .before .before .before .before .before .before .before .before .before .node-of .result) (sym (c .before .before .before .before .before .before .before .before .before .before .before .before .node-of .ensures)) (omega arith) (word 0xFF (a .node) ∷ w) (shown-headed (a .form) (a .node) w g) (omega arith) (a .out .now) (c .before .before .copy-answer .last .1 .1 .0)
+    (q ∙ headed-written (a .out .now) w (word 0xFF (a .node)) (omega arith)) _ (omega arith)
+
+returns-5 : tie.Need-returns-5
+returns-5 c =
+    let a = c .before .before .before .before .before .before .before .before .before .before .before .before .before .args in
+    let m : Machine = machine (a .s) (a .store .now) (a .plaques .now) in
+    let p = slot-in (a .node) (c .before .before .before .before .before .before .before .before .before .node-slot .result) (c .before .before .before .before .before .before .before .before .before .node-slot .ensures) (c .before .before .before .before .before .before .before .before .if1 .left) in
+    let h = here (c .before .before .before .before .before) in
+    let w : List ℕ = answerAt (a .store .now) (getD (c .before .before .before .before .before .before .before .node-of .result .list .places) 0 0) in
+    let l : length w ≡ getD (a .store .now) (getD (c .before .before .before .before .before .before .before .node-of .result .list .places) 0 0) 0 = answer-length (a .store .now) (getD (c .before .before .before .before .before .before .before .node-of .result .list .places) 0 0) (h .inside) in
+    let g : bears (a .form) (a .node) ≡ false = sym (c .before .before .bears .ensures) ∙ c .before .if3 .left in
+    collected-16 full m (a .form) (a .node) (length (a .out .now)) (c .before .before .before .before .before .before .before .before .before .before .before .before .before .pre) (c .before .before .before .before .before .before .before .before .before .node-slot .result) (p .0) (p .1) (c .before .before .before .before .before .before .before .node-of .result) (sym (c .before .before .before .before .before .before .before .node-of .ensures)) (omega arith) w (shown-bare (a .form) (a .node) w g) (a .out .now) (omega arith)
+
+copy-answer-requires-2 : tie.Need-copy-answer-requires-2
+copy-answer-requires-2 c κs =
+    let h = here (c .before .before .before .before .before .before) in
+    (h .inside, omega (arith, h .least), omega arith)
+
+same-length-2 : tie.Need-same-length-2
+same-length-2 c = search needs
+
+returns-6 : tie.Need-returns-6
+returns-6 c =
+    let a = c .before .before .before .before .before .before .before .before .before .before .before .before .before .before .before .before .before .args in
+    let m : Machine = machine (a .s) (a .store .now) (a .plaques .now) in
+    let p = slot-in (a .node) (c .before .before .before .before .before .before .before .before .before .before .before .before .before .node-slot .result) (c .before .before .before .before .before .before .before .before .before .before .before .before .before .node-slot .ensures) (c .before .before .before .before .before .before .before .before .before .before .before .before .if1 .left) in
+    let h = here (c .before .before .before .before .before .before .before .before .before) in
+    let w : List ℕ = answerAt (a .store .now) (getD (c .before .before .before .before .before .before .before .before .before .before .before .node-of .result .list .places) 0 0) in
+    let l : length w ≡ getD (a .store .now) (getD (c .before .before .before .before .before .before .before .before .before .before .before .node-of .result .list .places) 0 0) 0 = answer-length (a .store .now) (getD (c .before .before .before .before .before .before .before .before .before .before .before .node-of .result .list .places) 0 0) (h .inside) in
+    let g : bears (a .form) (a .node) ≡ false = sym (c .before .before .before .before .before .before .bears .ensures) ∙ c .before .before .before .before .before .if3 .left in
+    collected-0 full m (a .form) (a .node) (length (a .out .now)) (c .before .before .before .before .before .before .before .before .before .before .before .before .before .before .before .before .before .pre) (c .before .before .before .before .before .before .before .before .before .before .before .before .before .node-slot .result) (p .0) (p .1) (c .before .before .before .before .before .before .before .before .before .before .before .node-of .result) (sym (c .before .before .before .before .before .before .before .before .before .before .before .node-of .ensures)) (omega arith) w (shown-bare (a .form) (a .node) w g) (omega arith) (a .out .now) (c .before .before .copy-answer2 .last .1 .1 .0)
+    (c .before .before .copy-answer2 .ensures ∙ bare-written (a .out .now) w) _ (sym l)
+
+pub collect-spec : {M : Type 1} → statement M
+collect-spec =
+    tie.close
+    (tie.spec
+    node-slot-requires
+    returns
+    node-of-requires
+    returns-2
+    element-copy-out-place
+    cast-place
+    mul-words
+    shared-slice-read-words
+    cast-words
+    bears-requires
+    add-if4
+    returns-3
+    word-requires
+    slice-write-out
+    copy-answer-requires
+    add-t19
+    same-length
+    returns-4
+    returns-5
+    copy-answer-requires-2
+    same-length-2
+    returns-6)

@@ -1,0 +1,103 @@
+// Answers collected and acknowledged, on a machine that is known to be consistent.
+use answers::refused;
+use answers::slots::node_slot;
+use promise::Called;
+use promise::Handout;
+use promise::Reply;
+use response::writer::bears;
+use state::State;
+use state::node::Node;
+use store::copy_in;
+use units::Form;
+use units::Words;
+use units::packing::word;
+ghost use mathlib.Core.Path.{_≡_};
+ghost use Prim.Native.Nat.{_+_, _≤_, _<_};
+ghost use lib.ListN.{length, getD};
+ghost use Rattle.meaning.specs.Bench.{full};
+ghost use Rattle.meaning.specs.Call.{collect, acknowledge, step};
+ghost use Rattle.state.specs.State.{freshNode};
+ghost use Rattle.state.specs.Machine.{machine, meaning, answerAt};
+ghost use Rattle.state.specs.Consistent.{unfit};
+ghost use Rattle.store.specs.Layout.{putIn};
+ghost use Rattle.promise.specs.Obeyed.{Makes, Collects};
+
+// The node at an index. (A call's result is known to have all its places; an element of an array is not.)
+fn node_of(s: State, i: usize) -> Node
+    requires { ⌜ i < 17 ⌝ }
+    ensures { λ r. ⌜ r ≡ getD (s .nodes) i freshNode ⌝ }
+{
+    s.nodes[i]
+}
+
+pub fn acknowledge(s: State, node: u8, number: u16, store: &[u16], plaques: &[u8]) -> Called
+    requires { ⌜ unfit full (machine s (now store) (now plaques)) ≡ 0 ⌝ }
+    ensures { λ r. ⌜ Makes full (step full (meaning full (machine s (now (store .entry)) (now (plaques .entry)))) (acknowledge node number)) s (now (store .entry)) (now (plaques .entry)) r (now (store .entry)) (now (plaques .entry)) ⌝ }
+{
+    let i = node_slot(node);
+    if 17 <= i {
+        return refused(s, 7);
+    }
+    let n = node_of(s, i);
+    let list = n.list;
+    if list.count == 0 {
+        return refused(s, 14);
+    }
+    if number != n.handover {
+        return refused(s, 15);
+    }
+    let mut t = s;
+    let m = n.taken();
+    t.nodes[i] = m;
+    Called {
+        reply: Reply::Done,
+        state: t,
+    }
+}
+
+// Copies the answer at a place of the store into out from a place on.
+fn copy_answer(store: &[u16], place: usize, out: &mut [u16], to: usize)
+    requires { ⌜ (place + getD (now store) place 0 ≤ length (now store)) × (1 ≤ getD (now store) place 0) × (to + getD (now store) place 0 ≤ length (now out)) ⌝ }
+    ensures { λ _. ⌜ now (out .exit) ≡ putIn (now (out .entry)) to (answerAt (now (store .entry)) place) ⌝ }
+{
+    let end = place + store[place] as usize;
+    copy_in(&store[place..end], out, to);
+}
+
+// State, store and plaque memory stay as they are.
+pub fn collect(
+    s: State,
+    form: Form,
+    node: u8,
+    store: &[u16],
+    plaques: &[u8],
+    out: &mut [u16],
+) -> Handout
+    requires { ⌜ unfit full (machine s (now store) (now plaques)) ≡ 0 ⌝ }
+    ensures { λ r. ⌜ Collects full (collect form node (length (now (out .entry)))) (machine s (now (store .entry)) (now (plaques .entry))) r (now (out .entry)) (now (out .exit)) ⌝ }
+{
+    let i = node_slot(node);
+    if 17 <= i {
+        return Handout::Refused(7);
+    }
+    let n = node_of(s, i);
+    let list = n.list;
+    if list.count == 0 {
+        return Handout::Refused(14);
+    }
+    let place = list.places[0] as usize;
+    let words = store[place] as usize;
+    if bears(form, node) {
+        if out.len() < words + 1 {
+            return Handout::Refused(16);
+        }
+        out[0] = word(0xFF, node);
+        copy_answer(store, place, out, 1);
+        return Handout::Handed(Words(words + 1), n.handover);
+    }
+    if out.len() < words {
+        return Handout::Refused(16);
+    }
+    copy_answer(store, place, out, 0);
+    Handout::Handed(Words(words), n.handover)
+}

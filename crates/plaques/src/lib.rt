@@ -1,0 +1,100 @@
+// Plaques that arrive and leave, on a machine that is known to be consistent.
+use answers::refused;
+use answers::slots::reader_slot;
+use promise::Called;
+use promise::Reply;
+use state::State;
+use units::Bytes;
+ghost use mathlib.Core.Path.{_≡_};
+ghost use Prim.Native.Nat.{_+_, _≤_};
+ghost use lib.ListN.{length};
+ghost use lib.Seq.{paste};
+ghost use Rattle.meaning.specs.Bench.{full};
+ghost use Rattle.meaning.specs.Call.{leave, arrive, step};
+ghost use Rattle.state.specs.Machine.{machine, meaning};
+ghost use Rattle.state.specs.Consistent.{unfit};
+ghost use Rattle.promise.specs.Obeyed.{Makes};
+
+// Copies all of src into dst from a place on.
+pub fn copy_bytes(src: &[u8], dst: &mut [u8], to: usize)
+    requires { ⌜ to + length (now src) ≤ length (now dst) ⌝ }
+    ensures { λ _. ⌜ now (dst .exit) ≡ paste (now (dst .entry)) to (now (src .entry)) (length (now (src .entry))) ⌝ }
+{
+    let mut j = 0;
+    while j < src.len() {
+        let o = to + j;
+        dst[o] = src[j];
+        j += 1;
+    }
+}
+
+// An ID by value.
+fn eight(id: &[u8]) -> [u8; 8]
+    requires { ⌜ length (now id) ≡ 8 ⌝ }
+    ensures { λ r. ⌜ r ≡ now (id .entry) ⌝ }
+{
+    let mut a = [0u8; 8];
+    let mut j: usize = 0;
+    while j < 8 {
+        a[j] = id[j];
+        j += 1;
+    }
+    a
+}
+
+pub fn leave(s: State, node: u8, store: &[u16], plaques: &[u8]) -> Called
+    requires { ⌜ unfit full (machine s (now store) (now plaques)) ≡ 0 ⌝ }
+    ensures { λ r. ⌜ Makes full (step full (meaning full (machine s (now (store .entry)) (now (plaques .entry)))) (leave node)) s (now (store .entry)) (now (plaques .entry)) r (now (store .entry)) (now (plaques .entry)) ⌝ }
+{
+    let i = reader_slot(node);
+    if 16 <= i {
+        return refused(s, 7);
+    }
+    let x = s.readers[i];
+    let plaque = x.plaque;
+    if !plaque.present {
+        return refused(s, 14);
+    }
+    let mut t = s;
+    let y = x.left();
+    t.readers[i] = y;
+    Called {
+        reply: Reply::Done,
+        state: t,
+    }
+}
+
+pub fn arrive(
+    s: State,
+    node: u8,
+    id: &[u8],
+    bytes: &[u8],
+    store: &[u16],
+    plaques: &mut [u8],
+) -> Called
+    requires { ⌜ unfit full (machine s (now store) (now plaques)) ≡ 0 ⌝ }
+    ensures { λ r. ⌜ Makes full (step full (meaning full (machine s (now (store .entry)) (now (plaques .entry)))) (arrive node (now (id .entry)) (now (bytes .entry)))) s (now (store .entry)) (now (plaques .entry)) r (now (store .entry)) (now (plaques .exit)) ⌝ }
+{
+    let i = reader_slot(node);
+    if 16 <= i {
+        return refused(s, 7);
+    }
+    if id.len() != 8 {
+        return refused(s, 9);
+    }
+    if bytes.len() < 1 {
+        return refused(s, 10);
+    }
+    if 1024 < bytes.len() {
+        return refused(s, 10);
+    }
+    let x = s.readers[i];
+    let y = x.arrived(eight(id), Bytes(bytes.len()));
+    copy_bytes(bytes, plaques, i * 1024);
+    let mut t = s;
+    t.readers[i] = y;
+    Called {
+        reply: Reply::Done,
+        state: t,
+    }
+}
