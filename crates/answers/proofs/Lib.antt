@@ -1,3 +1,4 @@
 pub mod Made
 pub mod Indices
 pub mod Replies
+pub mod Cuts

@@ -1,6 +1,6 @@
 -- An answer that a node may give is written whole, and is a well-formed response of that node.
 -- Assumes nothing.
-use Prim.Native.Nat.{ℕ, _+_, _≤_, _<_}
+use Prim.Native.Nat.{ℕ, _+_, _-_, _≤_, _<_}
 use mathlib.Core.Path.{_≡_, refl, sym, ap, _∙_, subst}
 use mathlib.Core.Bool.{Bool, true, false, cond}
 use mathlib.Core.List.{List}
@@ -8,20 +8,26 @@ use native.Mathlib.Omega.{arith}
 use lib.Dec.{ltb}
 use lib.ListN.{length, take}
 use lib.Seq.{take-at}
-use borrow.Author.Tests.{eq-eqb, le-leb, ltb-true, ltb-false}
+use borrow.Author.Tests.{eq-eqb, le-leb, le-ltb, ltb-true, ltb-false}
 use Rattle.units.specs.declared.Form.the-variants.{Register}
-use Rattle.units.proofs.Choice.{yes-cond, yes-or, or-false}
-use Rattle.meaning.specs.Bench.{full, hub, isNode}
+use Rattle.units.specs.Stamp.{isStamp}
+use Rattle.units.specs.declared.stamp.Stamp.{Stamp}
+use Rattle.units.proofs.Choice.{yes-cond, yes-or, no-or, or-false}
+use Rattle.meaning.specs.Bench.{full, hub, isReader, isNode}
 use Rattle.meaning.specs.Packet.{overall, writtenOutput}
 use Rattle.meaning.specs.Response.{amountWrong, errorWrong, respondRefusal, responseBody, bears, shown, shownCount, responseWords, responseOutput, wellFormed}
 use Rattle.meaning.specs.declared.packet.Response.{Response}
 use Rattle.meaning.proofs.ResponseLaws.{count-responded, writes, read-responded}
-use Rattle.state.specs.Consistent.{nodeAt, heldsOf}
+use Rattle.state.specs.Machine.{Machine}
+use Rattle.state.specs.Consistent.{nodeAt, heldsOf, unfit}
 use Rattle.lists.specs.Room.{roomFor}
 use Rattle.store.specs.Joined.{Queue}
 use Rattle.state.specs.declared.State.{State}
 use Rattle.lists.proofs.Answers.{read-formed}
 use Rattle.store.proofs.Every.{both}
+use Rattle.promise.proofs.Parts.{parts}
+use Rattle.promise.proofs.Tables.{reader-range}
+use Rattle.promise.proofs.Answers.{reader-index}
 use Rattle.answers.specs.Answerable.{Answerable}
 
 -- the node of each index is one, and its number a byte
@@ -74,3 +80,19 @@ pub of-words : {room : Bool} {store store′ : List ℕ} {s s′ : State} {i : �
     → (room ≡ roomFor full (heldsOf store (s .nodes)) i (length w)) × Queue full room store store′ s s′ i w
 of-words {room} {store} {store′} {s} {s′} {i} e q =
     subst (λ (w : List ℕ). (room ≡ roomFor full (heldsOf store (s .nodes)) i (length w)) × Queue full room store store′ s s′ i w) e q
+
+-- a reader's answer, on a consistent machine
+pub answerable : (m : Machine) (n i : ℕ) → unfit full m ≡ 0 → isReader full n ≡ true → i ≡ n - 1 → (t : Stamp) → isStamp t ≡ true
+    → (echo count bytes : ℕ) → bytes ≤ 255
+    → Answerable full (m .store) (m .state) i (record { error = false; echo = echo; count = count; node = n; stamp = t }) bytes
+unfolding amountWrong
+answerable m n i u is at t good echo count bytes h =
+    let p = parts full m u in
+    record {
+      size = p .store;
+      lists = p .lists;
+      index = omega (arith, p .eachNode, reader-range full n is);
+      node = sym (ap (nodeAt full) at ∙ reader-index full n is);
+      stamp = good;
+      amount = no-or (le-ltb _ _ h);
+    }

@@ -1,28 +1,17 @@
 use Rattle.answers.proofs.Indices.{slot-out, slot-in, blankReader, reader-there}
-use Rattle.meaning.specs.Call.{leave, arrive}
-use borrow.Author.Tests.{eq-eqb, ne-eqb, lt-ltb, le-ltb, le-leb, lt-leb, not-true, not-false, eqb-true, eqb-false, leb-true}
-use mathlib.Core.Path.{_≡_, refl, sym, ap, _∙_, subst}
-use native.Mathlib.Omega.{arith}
-use Rattle.units.proofs.Choice.{yes-cond, no-cond, yes-and, no-and, yes-or, no-or}
-use Prim.Native.Nat.{ℕ, _+_, _-_, _*_, _≤_, _<_}
-use mathlib.Core.List.{List, []}
-use mathlib.Core.Bool.{Bool, true, false, not, cond}
+use Rattle.meaning.specs.Call.{leave}
+use borrow.Author.Tests.{not-true, not-false}
+use Prim.Native.Nat.{_-_}
 use denote.Ref.{now}
-use lib.ListN.{length, getD}
+use lib.ListN.{getD}
 use Rattle.meaning.specs.Bench.{full}
 use Rattle.state.specs.Machine.{Machine, machine}
-use Rattle.state.specs.State.{freshReader}
 use Rattle.promise.specs.Obeyed.{spoken}
-use Rattle.promise.proofs.Plaques.{left-7, left-14, left-0, arrived-7, arrived-9, arrived-10, arrived-0}
+use Rattle.promise.proofs.Plaques.{left-7, left-14, left-0}
 use Rattle.answers.proofs.Replies.{stepped, stored, called}
 use borrow.Author.Needs.{needs}
 use Rattle.plaques.proofs.leave.Statement.{statement}
 use Rattle.plaques.proofs.leave.Tie as tie
-use Rattle.plaques.proofs.leave.Reads as reads
-use Rattle.plaques.proofs.leave.Lts as lts
-use Rattle.answers.proofs.refused.Reads as refused-reads
-use Rattle.answers.proofs.slots.reader_slot.Reads as reader-slot-reads
-use Rattle.state.proofs.reader.Reader.left.Reads as left-reads
 
 reader-slot-requires : tie.Need-reader-slot-requires
 reader-slot-requires c κs = search needs
@@ -32,7 +21,12 @@ refused-requires c κs = search needs
 
 returns : tie.Need-returns
 unfolding spoken
-returns c = let a = c .before .before .before .before .before .args in let m : Machine = machine (a .t1) (now (a .store)) (now (a .plaques)) in called (c .refused .ensures) (stepped (leave (a .node)) (c .before .before .before .before .before .pre) (left-7 full m (a .node) (c .before .before .before .before .before .pre) (slot-out (a .node) _ (c .before .before .reader-slot .ensures) (c .before .if1 .taken))))
+returns c =
+    let a = c .before .before .before .before .before .args in
+    let m : Machine = machine (a .t1) (now (a .store)) (now (a .plaques)) in
+    called (c .refused .ensures) (stepped (leave (a .node)) (c .before .before .before .before .before .pre)
+    (left-7 full m (a .node) (c .before .before .before .before .before .pre)
+    (slot-out (a .node) _ (c .before .before .reader-slot .ensures) (c .before .if1 .taken))))
 
 mul-x : tie.Need-mul-x
 mul-x c = search needs
@@ -45,7 +39,16 @@ refused-requires-2 c κs = search needs
 
 returns-2 : tie.Need-returns-2
 unfolding spoken
-returns-2 c = let a = c .before .before .before .before .before .before .before .before .before .args in let m : Machine = machine (a .t1) (now (a .store)) (now (a .plaques)) in let p = slot-in (a .node) (c .before .before .before .before .before .before .reader-slot .result) (c .before .before .before .before .before .before .reader-slot .ensures) (c .before .before .before .before .before .if1 .left) in let x = getD (a .t1 .readers) (c .before .before .before .before .before .before .reader-slot .result) blankReader in called (c .refused2 .ensures) (stepped (leave (a .node)) (c .before .before .before .before .before .before .before .before .before .pre) (left-14 full m (a .node) (c .before .before .before .before .before .before .before .before .before .pre) (p .0) x (reader-there m (a .node) _ (c .before .before .before .before .before .before .before .before .before .pre) (p .0) (p .1)) (not-true _ (c .before .if2 .taken))))
+returns-2 c =
+    let a = c .before .before .before .before .before .before .before .before .before .args in
+    let m : Machine = machine (a .t1) (now (a .store)) (now (a .plaques)) in
+    let p = slot-in (a .node) (c .before .before .before .before .before .before .reader-slot .result)
+    (c .before .before .before .before .before .before .reader-slot .ensures) (c .before .before .before .before .before .if1 .left) in
+    let x = getD (a .t1 .readers) (c .before .before .before .before .before .before .reader-slot .result) blankReader in
+    called (c .refused2 .ensures) (stepped (leave (a .node)) (c .before .before .before .before .before .before .before .before .before .pre)
+    (left-14 full m (a .node) (c .before .before .before .before .before .before .before .before .before .pre) (p .0) x
+    (reader-there m (a .node) _ (c .before .before .before .before .before .before .before .before .before .pre) (p .0) (p .1))
+    (not-true _ (c .before .if2 .taken))))
 
 left-requires : tie.Need-left-requires
 left-requires c κs = search needs
@@ -58,7 +61,16 @@ element-set-from-y c = search needs
 
 returns-3 : tie.Need-returns-3
 unfolding spoken
-returns-3 c = let a = c .before .before .before .before .before .before .before .before .before .args in let m : Machine = machine (a .t1) (now (a .store)) (now (a .plaques)) in let p = slot-in (a .node) (c .before .before .before .before .before .before .reader-slot .result) (c .before .before .before .before .before .before .reader-slot .ensures) (c .before .before .before .before .before .if1 .left) in let x = getD (a .t1 .readers) (c .before .before .before .before .before .before .reader-slot .result) blankReader in stored (a .t1) (p .1) (c .left .ensures) (stepped (leave (a .node)) (c .before .before .before .before .before .before .before .before .before .pre) (left-0 full m (a .node) (c .before .before .before .before .before .before .before .before .before .pre) (p .0) x (reader-there m (a .node) _ (c .before .before .before .before .before .before .before .before .before .pre) (p .0) (p .1)) (not-false _ (c .before .if2 .left))))
+returns-3 c =
+    let a = c .before .before .before .before .before .before .before .before .before .args in
+    let m : Machine = machine (a .t1) (now (a .store)) (now (a .plaques)) in
+    let p = slot-in (a .node) (c .before .before .before .before .before .before .reader-slot .result)
+    (c .before .before .before .before .before .before .reader-slot .ensures) (c .before .before .before .before .before .if1 .left) in
+    let x = getD (a .t1 .readers) (c .before .before .before .before .before .before .reader-slot .result) blankReader in
+    stored (a .t1) (p .1) (c .left .ensures) (stepped (leave (a .node)) (c .before .before .before .before .before .before .before .before .before .pre)
+    (left-0 full m (a .node) (c .before .before .before .before .before .before .before .before .before .pre) (p .0) x
+    (reader-there m (a .node) _ (c .before .before .before .before .before .before .before .before .before .pre) (p .0) (p .1))
+    (not-false _ (c .before .if2 .left))))
 
 pub leave-spec : {M : Type 1} → statement M
 leave-spec =
