@@ -4,6 +4,8 @@ pub mod Aim
 pub mod Alone
 pub mod Local
 pub mod Numbers
+pub mod Late
+pub mod Whole
 pub mod Third
 pub mod Counted
 pub mod Swept

@@ -96,7 +96,7 @@ first-applies (this n ds) h = here ds
 first-applies (next m f) h = later _ (first-applies f h)
 
 -- ---- chains whose numbers never fall
-rise-positive : (k : ℕ) (ns : List ℕ) → 1 ≤ k → rise k ns ≡ true → positive ns ≡ true
+pub rise-positive : (k : ℕ) (ns : List ℕ) → 1 ≤ k → rise k ns ≡ true → positive ns ≡ true
 unfolding rise positive
 rise-positive k [] h e = refl
 rise-positive k (n ∷ ns) h e =

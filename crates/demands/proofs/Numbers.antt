@@ -60,7 +60,7 @@ who b t f ws e =
     let p = accepts _ _ (accepts _ _ (accepts _ _ (accepts _ _ e .1) .1) .0) in
     (not-false _ (fine-at _ _ _ refl (p .0)), not-false _ (fine-at _ _ _ refl (p .1)))
 
-suits-reader : (b : Bench) → Sound b → (c : Call) → judged b c ≡ 0 → isReader b (named c) ≡ true → SuitsReader b (named c) c
+pub suits-reader : (b : Bench) → Sound b → (c : Call) → judged b c ≡ 0 → isReader b (named c) ≡ true → SuitsReader b (named c) c
 unfolding SuitsReader
 suits-reader b ok (command t f ws) e p = (who b t f ws e .1, reader-apart b ok _ p)
 suits-reader b ok (check n t k) e p = tt
@@ -69,7 +69,7 @@ suits-reader b ok (leave n) e p = tt
 suits-reader b ok (collect f n k) e p = tt
 suits-reader b ok (acknowledge n h) e p = tt
 
-suits-hub : (b : Bench) (c : Call) → judged b c ≡ 0 → named c ≡ hub → serves c ≡ true → SuitsHub b c
+pub suits-hub : (b : Bench) (c : Call) → judged b c ≡ 0 → named c ≡ hub → serves c ≡ true → SuitsHub b c
 unfolding SuitsHub serves
 suits-hub b (command t f ws) e p q = subst (λ (n : ℕ). suits (kindIn b f ws) n ≡ true) p (who b t f ws e .1)
 suits-hub b (check n t k) e p q = false≢true q
@@ -83,7 +83,7 @@ unnamed : (s t : Bool) → s ≡ false → (t && true) ≡ false → (s || t) �
 unnamed s true p q e = true≢false q
 unnamed s false p q e = false≢true (subst (λ (x : Bool). (x || false) ≡ true) p e)
 
-never-nobody : (b : Bench) (c : Call) → judged b c ≡ 0 → isReader b (named c) ≡ false → (eqb (named c) hub && serves c) ≡ false → ⊥
+pub never-nobody : (b : Bench) (c : Call) → judged b c ≡ 0 → isReader b (named c) ≡ false → (eqb (named c) hub && serves c) ≡ false → ⊥
 unfolding judged asked named serves
 never-nobody b (command t f ws) e p q = unnamed _ _ p q (who b t f ws e .0)
 never-nobody b (check n t k) e p q = true≢false (sym (not-false _ (fine _ _ refl (accepts _ _ (accepts _ _ e .1) .0))) ∙ p)

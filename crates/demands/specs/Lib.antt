@@ -1,3 +1,4 @@
 pub mod Sound
 pub mod Demand
 pub mod Counts
+pub mod Wrong

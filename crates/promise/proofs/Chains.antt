@@ -140,7 +140,7 @@ fresh-means b store memory =
 -- ---- demand 3 of the code: the lines of any chain from a fresh machine, those of other readers' calls left out, are the struck-out run's
 module _ (i : ℕ) (store memory : List ℕ) (words : length store ≡ full .store) (bytes : length memory ≡ full .readers * full .region) (hs : List Heard)
     (chain : Chain full (freshMachine store memory) hs) where
-  fresh-lines : lines full i hs ≡ log full i (fresh (regionOf full memory)) (calls hs)
+  pub fresh-lines : lines full i hs ≡ log full i (fresh (regionOf full memory)) (calls hs)
   fresh-lines =
       chain-lines full i (freshMachine store memory) hs (fresh-fit store memory words bytes) chain
       ∙ ap (λ (g : Gateway). log full i g (calls hs)) (fresh-means full store memory)

@@ -12,7 +12,10 @@ pub mod Plaques
 pub mod Oldest
 pub mod Sweeps
 pub mod Only
+pub mod Faults
 pub mod Chains
+pub mod Demands
+pub mod Sixteen
 pub mod Locals
 pub mod Commands
 pub mod Accepted

@@ -1,3 +1,5 @@
 pub mod Obeyed
 pub mod Same
+pub mod Faults
 pub mod Runs
+pub mod Sixteen

@@ -2,7 +2,8 @@
 -- Assumes nothing.
 use Prim.Native.Nat.{ℕ}
 use mathlib.Core.List.{List, [], _∷_, map}
-use Rattle.meaning.specs.Bench.{Bench}
+use Rattle.meaning.specs.Bench.{Bench, full}
+use Rattle.meaning.specs.Gateway.{Gateway}
 use Rattle.meaning.specs.Call.{Call, Said}
 use Rattle.state.specs.State.{freshState}
 use Rattle.state.specs.Machine.{Machine, machine, meaning}
@@ -41,3 +42,7 @@ lines b i (h ∷ hs) =
 -- where every chain starts: a fresh state, with whatever the lent store and plaque memory hold
 abbrev pub freshMachine : List ℕ → List ℕ → Machine
 freshMachine store memory = machine freshState store memory
+
+-- the gateway that the code's machine means after such a chain
+abbrev pub reached : List ℕ → List ℕ → List Heard → Gateway
+reached store memory hs = meaning full (ended (freshMachine store memory) hs)

@@ -1,0 +1,76 @@
+-- Demand 3, and the counts of demand 2, of the code's own machines: "From a fresh state, over any calls with state and lent memory handed back
+-- unaltered". What demands proves of the meaning's runs holds of every chain of calls from a fresh machine. (Strike-out is `struck-chain`.)
+-- Assumes nothing.
+use Prim.Native.Nat.{ℕ, zero, suc, _+_, _*_, _%_, _≤_, _<_}
+use mathlib.Core.Path.{_≡_, sym, ap, _∙_}
+use mathlib.Core.List.{List, [], _∷_}
+use lib.ListN.{length, take, drop}
+use Rattle.meaning.specs.Bench.{Bench, full}
+use Rattle.meaning.specs.Packet.{wordNo}
+use Rattle.meaning.specs.Gateway.{Gateway, fresh}
+use Rattle.meaning.specs.Room.{added, held, charges}
+use Rattle.meaning.specs.Call.{Try, refused, tried, step, run}
+use Rattle.demands.specs.Sound.{full-sound}
+use Rattle.demands.specs.Demand.{Line}
+use Rattle.demands.specs.Counts.{Past, tally, past}
+use Rattle.demands.proofs.Room.{bounds-run}
+use Rattle.demands.proofs.Third.{never-over, never-refused}
+use Rattle.demands.proofs.Counted.{counted}
+use Rattle.demands.proofs.History.{Tells, history}
+use Rattle.state.specs.Machine.{Machine, regionOf}
+use Rattle.promise.specs.Obeyed.{Obeyed}
+use Rattle.promise.specs.Runs.{Heard, Chain, ended, calls, lines, freshMachine, reached}
+use Rattle.promise.proofs.Chains.{stepped, chain-ends, chain-fit, fresh-fit, fresh-means, fresh-lines}
+
+-- the first k calls of a chain are a chain
+pub chain-front : (b : Bench) (k : ℕ) (m : Machine) (hs : List Heard) → Chain b m hs → Chain b m (take k hs)
+unfolding Chain
+chain-front b zero m hs c = tt
+chain-front b (suc k) m [] c = tt
+chain-front b (suc k) m (h ∷ hs) c = (c .0, chain-front b k (h .after) hs (c .1))
+
+-- nothing has been made at a node, and nothing is gone
+abbrev pub unmade : Past
+unmade = record { made = []; gone = 0 }
+
+module _ (store memory : List ℕ) (words : length store ≡ full .store) (bytes : length memory ≡ full .readers * full .region) (hs : List Heard)
+    (chain : Chain full (freshMachine store memory) hs) where
+  -- after a chain, the code's machine means what the run of its calls comes to
+  pub fresh-ends : reached store memory hs ≡ run full (fresh (regionOf full memory)) (calls hs)
+  fresh-ends =
+      chain-ends full (freshMachine store memory) hs (fresh-fit store memory words bytes) chain
+      ∙ ap (λ (g : Gateway). run full g (calls hs)) (fresh-means full store memory)
+
+  -- "none is refused for room while its held words plus the new answer are at most 134"
+  pub code-never-refused : (h : Heard) → Obeyed full (h .call) (ended (freshMachine store memory) hs) (h .said) (h .after) → h .said ≡ refused 13
+      → (n : ℕ) × (g : Gateway) × (w : List ℕ) × (tried full (reached store memory hs) (h .call) ≡ Try.due n g w) × (134 < held (g .nodes n) + wordNo 1 w)
+  code-never-refused h o e =
+      let u = chain-fit full (freshMachine store memory) hs (fresh-fit store memory words bytes) chain in
+      let s = stepped full (h .call) (ended (freshMachine store memory) hs) (h .said) (h .after) u o in
+      rw fresh-ends
+      (never-refused (regionOf full memory) (calls hs) (h .call)
+      (ap (λ (g : Gateway). (step full g (h .call)) .said) (sym fresh-ends) ∙ sym (s .says) ∙ e))
+
+  -- instance counts are counted from the calls and what they said
+  pub code-counted : (n i : ℕ) → reached store memory hs .nodes n .count ≡ tally full n 0 (lines full i hs) % 256
+  code-counted n i =
+      ap (λ (g : Gateway). g .nodes n .count) fresh-ends ∙ counted full n i (regionOf full memory) (calls hs)
+      ∙ ap (λ (ls : List Line). tally full n 0 ls % 256) (sym (fresh-lines i store memory words bytes hs chain))
+
+  -- a node's pending answers are those made at it, in order, without those acknowledged or cleared ..
+  pub code-history : (n : ℕ) → Tells (past full n (fresh (regionOf full memory)) (calls hs) unmade) (reached store memory hs .nodes n .pending)
+  code-history n = rw fresh-ends (history full n (regionOf full memory) (calls hs))
+
+  -- .. and its held words are those of these answers
+  pub code-held : (n : ℕ) → let p = past full n (fresh (regionOf full memory)) (calls hs) unmade in
+      held (reached store memory hs .nodes n) ≡ added (drop (p .gone) (p .made))
+  code-held n = ap added (code-history n .pending)
+
+-- "no node holds over 804 words of pending answers", nor do the charges pass the store: after every k calls of a chain, so at each of its machines
+pub code-never-over : (store memory : List ℕ) → length store ≡ full .store → length memory ≡ full .readers * full .region
+    → (hs : List Heard) → Chain full (freshMachine store memory) hs → (k : ℕ)
+    → ((n : ℕ) → held (reached store memory (take k hs) .nodes n) ≤ 804) × (charges full (reached store memory (take k hs)) ≤ 4096)
+code-never-over store memory words bytes hs chain k =
+    let c = chain-front full k (freshMachine store memory) hs chain in
+    let e = fresh-ends store memory words bytes (take k hs) c in
+    rw e (never-over (regionOf full memory) (calls (take k hs)), bounds-run full full-sound (regionOf full memory) (calls (take k hs)) .stored)

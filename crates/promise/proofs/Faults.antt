@@ -1,0 +1,56 @@
+-- "The lowest number that applies is given", of every call of the code, on any machine.
+-- Assumes nothing.
+use Prim.Native.Nat.{ℕ, _≤_}
+use mathlib.Core.Path.{_≡_, refl, sym, ap, _∙_}
+use mathlib.Core.Bool.{Bool, true, false}
+use native.Mathlib.Omega.{arith}
+use lib.Dec.{eqb}
+use borrow.Author.Tests.{eqb-true, eqb-false}
+use Rattle.units.proofs.Choice.{yes-cond, no-cond}
+use Rattle.meaning.specs.Refusal.{refusal}
+use Rattle.meaning.specs.Bench.{Bench}
+use Rattle.meaning.specs.Call.{Call, Said, Outcome, refused, step}
+use Rattle.meaning.proofs.Chain.{pass, stop}
+use Rattle.demands.specs.Sound.{Sound}
+use Rattle.demands.specs.Wrong.{wrong}
+use Rattle.demands.proofs.Lowest.{doubts, numbers, rise}
+use Rattle.demands.proofs.Numbers.{refused-numbers}
+use Rattle.demands.proofs.Late.{number, number-step}
+use Rattle.demands.proofs.Whole.{Lowest, lowest-by, rise-down, wrong-rise}
+use Rattle.state.specs.Machine.{Machine, meaning}
+use Rattle.state.specs.Consistent.{lent, unfit}
+use Rattle.promise.specs.Obeyed.{expected, Obeyed}
+use Rattle.promise.specs.Faults.{faults}
+
+module _ (b : Bench) (ok : Sound b) (c : Call) (m : Machine) where
+  -- what is said is by the first that applies, and is no refusal 0
+  record First : Type 0 where
+    first : number (expected b c m .said) ≡ refusal (faults b m c)
+    some : (k : ℕ) → expected b c m .said ≡ refused k → 1 ≤ k
+
+  first-fault : First
+  unfolding expected unfit faults
+  first-fault = go (eqb (unfit b m) 0) refl
+    where
+      go : (t : Bool) → eqb (unfit b m) 0 ≡ t → First
+      go true e =
+          let is : expected b c m ≡ step b (meaning b m) c = yes-cond _ e in
+          record {
+            first = ap (λ (o : Outcome). number (o .said)) is ∙ number-step b ok (meaning b m) c ∙ sym (pass (lent b m) _ (eqb-true _ _ e));
+            some = λ k h. omega (arith, refused-numbers b ok (meaning b m) c k (ap (λ (o : Outcome). o .said) (sym is) ∙ h));
+          }
+      go false e =
+          let z = eqb-false (unfit b m) 0 e in
+          let is : expected b c m ≡ record { said = refused (unfit b m); next = meaning b m } = no-cond _ e in
+          record {
+            first = ap (λ (o : Outcome). number (o .said)) is ∙ sym (stop (lent b m) _ z);
+            some = λ k h. let q : unfit b m ≡ k = ap (λ (o : Outcome). number (o .said)) (sym is) ∙ ap number h in omega arith;
+          }
+
+  faults-rise : rise 1 (numbers (doubts (faults b m c))) ≡ true
+  unfolding rise numbers doubts faults lent
+  faults-rise = rise-down 2 3 (numbers (doubts (wrong b (meaning b m) c))) (omega arith) (wrong-rise b (meaning b m) c)
+
+  -- "each given exactly when that paper says": a refusal's number applies, and no lower one of the sixteen; where one applies, there is a refusal
+  pub code-lowest : (said : Said) (m′ : Machine) → Obeyed b c m said m′ → Lowest said (faults b m c)
+  code-lowest said m′ o = rw (o .says) (lowest-by _ _ faults-rise (first-fault .some) (first-fault .first))
