@@ -3,12 +3,20 @@
 -- digits, one blank between them.
 -- Assumes nothing.
 use Prim.Native.Nat.{ℕ, zero, suc, _+_, _/_, _%_}
+use Prim.Native.Char.{code}
+use Prim.Native.String as S
+use Prim.Native.String.{String}
 use mathlib.Core.Path.{_≡_}
 use mathlib.Core.Bool.{cond}
 use mathlib.Core.List.{List, [], _∷_, _++_}
 use lib.Dec.{ltb}
 use lib.ListN.{length}
 use lib.Seq.{sets}
+
+-- a text's bytes
+abbrev pub ascii : String → List ℕ
+ascii S.[] = []
+ascii (S._∷_ c s) = code c ∷ ascii s
 
 -- a hexadecimal digit, upper case
 abbrev pub digitOf : ℕ → ℕ

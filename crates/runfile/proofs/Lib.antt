@@ -1,0 +1,4 @@
+pub mod Records
+pub mod Shapes
+pub mod Method
+pub mod Plain

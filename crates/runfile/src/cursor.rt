@@ -1,0 +1,98 @@
+// The record that begins at a position of the bytes. Past their end nothing is left, so it is broken.
+use crate::CommandRecord;
+use crate::CountRecord;
+use crate::PlaqueRecord;
+use meaning::table::REGION;
+use units::Bytes;
+use units::Words;
+use units::packing::word;
+ghost use mathlib.Core.Path.{_≡_};
+ghost use Prim.Native.Nat.{_+_, _≤_};
+ghost use lib.ListN.{length, drop};
+ghost use Rattle.meaning.specs.Bench.{full};
+ghost use Rattle.listing.specs.Records.{two};
+ghost use Rattle.runfile.specs.Records.{countOf, plaqueOf, commandOf};
+
+fn two_at(rest: &[u8], i: usize) -> u16
+    requires { ⌜ i + 2 ≤ length (now rest) ⌝ }
+    ensures { λ r. ⌜ r ≡ two (now (rest .entry)) i ⌝ }
+{
+    let msb = rest[i];
+    let lsb = rest[i + 1];
+    word(msb, lsb)
+}
+
+fn count_of(rest: &[u8]) -> CountRecord
+    ensures { λ r. ⌜ r ≡ countOf (now (rest .entry)) ⌝ }
+{
+    if rest.len() < 2 {
+        return CountRecord::Broken;
+    }
+    CountRecord::Count(two_at(rest, 0))
+}
+
+fn plaque_of(rest: &[u8]) -> PlaqueRecord
+    ensures { λ r. ⌜ r ≡ plaqueOf full (now (rest .entry)) ⌝ }
+{
+    if rest.len() < 11 {
+        return PlaqueRecord::Broken;
+    }
+    let node = rest[0];
+    if node < 1 || 16 < node {
+        return PlaqueRecord::Broken;
+    }
+    let length = two_at(rest, 1);
+    if length < 1 || REGION < length {
+        return PlaqueRecord::Broken;
+    }
+    if rest.len() < 11 + length as usize {
+        return PlaqueRecord::Broken;
+    }
+    PlaqueRecord::Plaque {
+        node,
+        length: Bytes(length as usize),
+    }
+}
+
+fn command_of(rest: &[u8]) -> CommandRecord
+    ensures { λ r. ⌜ r ≡ commandOf (now (rest .entry)) ⌝ }
+{
+    if rest.len() < 7 {
+        return CommandRecord::Broken;
+    }
+    let words = two_at(rest, 5);
+    if words < 6 || 134 < words {
+        return CommandRecord::Broken;
+    }
+    if rest.len() < 5 + 2 * words as usize {
+        return CommandRecord::Broken;
+    }
+    CommandRecord::Command(Words(words as usize))
+}
+
+pub fn count_at(bytes: &[u8], at: usize) -> CountRecord
+    ensures { λ r. ⌜ r ≡ countOf (drop at (now (bytes .entry))) ⌝ }
+{
+    if bytes.len() < at {
+        return CountRecord::Broken;
+    }
+    count_of(&bytes[at..])
+}
+
+pub fn plaque_at(bytes: &[u8], at: usize) -> PlaqueRecord
+    ensures { λ r. ⌜ r ≡ plaqueOf full (drop at (now (bytes .entry))) ⌝ }
+{
+    if bytes.len() < at {
+        return PlaqueRecord::Broken;
+    }
+    plaque_of(&bytes[at..])
+}
+
+pub fn command_at(bytes: &[u8], at: usize) -> CommandRecord
+    ensures { λ r. ⌜ r ≡ commandOf (drop at (now (bytes .entry))) ⌝ }
+{
+    if bytes.len() < at {
+        return CommandRecord::Broken;
+    }
+    command_of(&bytes[at..])
+}

@@ -1,0 +1,79 @@
+// The run file: a view of the lent bytes with its position, and the record that begins there.
+pub mod cursor;
+
+use crate::cursor::command_at;
+use crate::cursor::count_at;
+use crate::cursor::plaque_at;
+use units::Bytes;
+use units::Words;
+ghost use mathlib.Core.Path.{_≡_};
+ghost use lib.ListN.{drop};
+ghost use Rattle.meaning.specs.Bench.{full};
+ghost use Rattle.runfile.specs.Records.{countOf, plaqueOf, commandOf};
+
+pub enum CountRecord {
+    Count(u16),
+    Broken,
+}
+
+// A plaque's node, and the length of its bytes, which begin 11 bytes after the record does.
+pub enum PlaqueRecord {
+    Plaque { node: u8, length: Bytes },
+    Broken,
+}
+
+// A command's Overall Length; its words begin 5 bytes after the record does.
+pub enum CommandRecord {
+    Command(Words),
+    Broken,
+}
+
+pub struct RunFile<'a> {
+    pub bytes: &'a [u8],
+    pub at: usize,
+}
+
+pub fn new<'a>(bytes: &'a [u8], at: usize) -> RunFile<'a>
+    ensures { λ r. ⌜ (r .bytes ≡ bytes .entry) × (r .at ≡ at) ⌝ }
+{
+    RunFile { bytes, at }
+}
+
+impl<'a> RunFile<'a> {
+    pub fn count(self) -> CountRecord
+        ensures { λ r. ⌜ r ≡ countOf (drop (self .entry .at) (now (self .entry .bytes))) ⌝ }
+    {
+        count_at(self.bytes, self.at)
+    }
+
+    pub fn plaque(self) -> PlaqueRecord
+        ensures { λ r. ⌜ r ≡ plaqueOf full (drop (self .entry .at) (now (self .entry .bytes))) ⌝ }
+    {
+        plaque_at(self.bytes, self.at)
+    }
+
+    pub fn command(self) -> CommandRecord
+        ensures { λ r. ⌜ r ≡ commandOf (drop (self .entry .at) (now (self .entry .bytes))) ⌝ }
+    {
+        command_at(self.bytes, self.at)
+    }
+}
+
+// With plain parameters, so that whoever calls these needs no walk by hand.
+pub fn read_count(bytes: &[u8], at: usize) -> CountRecord
+    ensures { λ r. ⌜ r ≡ countOf (drop at (now (bytes .entry))) ⌝ }
+{
+    new(bytes, at).count()
+}
+
+pub fn read_plaque(bytes: &[u8], at: usize) -> PlaqueRecord
+    ensures { λ r. ⌜ r ≡ plaqueOf full (drop at (now (bytes .entry))) ⌝ }
+{
+    new(bytes, at).plaque()
+}
+
+pub fn read_command(bytes: &[u8], at: usize) -> CommandRecord
+    ensures { λ r. ⌜ r ≡ commandOf (drop at (now (bytes .entry))) ⌝ }
+{
+    new(bytes, at).command()
+}
