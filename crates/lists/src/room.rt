@@ -1,6 +1,5 @@
 // Held words, charges and room.
 use state::State;
-use state::list_of;
 use state::node::Pending;
 use units::Words;
 ghost use mathlib.Core.Path.{_≡_};
@@ -47,7 +46,9 @@ pub fn helds(s: State, store: &[u16]) -> [Words; 17]
     let mut hs = [zero; 17];
     let mut i: usize = 0;
     while i < 17 {
-        hs[i] = held(list_of(s, i), store);
+        let n = s.nodes[i];
+        let list = n.list;
+        hs[i] = held(list, store);
         i += 1;
     }
     hs

@@ -17,11 +17,18 @@ use Rattle.state.specs.Machine.{placesOf}
 use Rattle.state.specs.State.{freshNode}
 use Rattle.state.specs.declared.node.Node.{Node}
 use Rattle.state.specs.declared.node.Pending.{Pending}
-use Rattle.state.proofs.Lists.{every-get}
+use Rattle.state.proofs.Lists.{every-get, getD-any}
 
 -- the list of the node at an index
 abbrev pub listAt : List Node → ℕ → Pending
 listAt ns i = getD ns i freshNode .list
+
+-- what code reads past an array's end
+abbrev pub blank : Node
+blank = record { instance = 0; handover = 0; list = record { count = 0; places = [] } }
+
+pub node-any : (ns : List Node) (i : ℕ) → i < length ns → getD ns i blank ≡ getD ns i freshNode
+node-any ns i h = getD-any ns i blank freshNode h
 
 -- no list is longer than its places
 pub few-at : (ns : List Node) → few ns ≡ true → (i : ℕ) → i < length ns

@@ -14,8 +14,9 @@ use Rattle.state.specs.State.{freshNode}
 use Rattle.state.specs.Machine.{answerAt, pendingOf}
 use Rattle.state.specs.declared.node.Pending.{Pending}
 use Rattle.state.specs.declared.node.Node.{Node}
+pub use Rattle.state.proofs.InOrder.{blank, node-any}
 use Rattle.state.proofs.Formed.{added-append}
-use Rattle.state.proofs.Lists.{getD-any, map-append, more-written}
+use Rattle.state.proofs.Lists.{map-append, more-written}
 use Rattle.store.specs.Layout.{putIn, laid, startsFrom, moved, allOf, packedFrom, Kept, EachKept}
 use Rattle.store.proofs.Every.{All, all-by, all-map, all-so}
 use Rattle.store.proofs.Answers.{Self, Stands, stands-self}
@@ -142,13 +143,6 @@ module _ (store : List ℕ) (to end : ℕ) (l : Pending) (k : ℕ) (t : Kept sto
       rw (front-more store (l .places) k short, q, g) (put-more out₀ to (laid f) a end laid-front r)
 
 -- ---- all nodes
--- what code reads past an array's end
-abbrev pub blank : Node
-blank = record { instance = 0; handover = 0; list = record { count = 0; places = [] } }
-
-pub node-any : (ns : List Node) (i : ℕ) → i < length ns → getD ns i blank ≡ getD ns i freshNode
-node-any ns i h = getD-any ns i blank freshNode h
-
 abbrev pub movedNode : List ℕ → ℕ → Node → Node
 movedNode store to n = record { instance = n .instance; handover = n .handover; list = moved store to (n .list) }
 
