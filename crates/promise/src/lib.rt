@@ -10,9 +10,10 @@ pub enum Reply {
     Queued,
 }
 
+// (The state stands first in what carries it: it then moves as one piece.)
 pub struct Called {
-    pub reply: Reply,
     pub state: State,
+    pub reply: Reply,
 }
 
 // What collect hands back: a refusal, or the count of words copied and the handover number.

@@ -161,8 +161,8 @@ fn append(s: State, i: usize, answer: &[u16], store: &mut [u16]) -> State
 }
 
 pub struct Queued {
-    pub ok: bool,
     pub state: State,
+    pub ok: bool,
 }
 
 // Adds an answer at the end of a node's list where it has room; where not, nothing changes.
