@@ -1,0 +1,46 @@
+// The night run: a run file played on a fresh gateway, and its listing written. `list` writes the whole listing; a program that has not
+// that much memory opens the file and takes turns, a line each (specs/Walk.antt, and law `all-lines` for the whole).
+pub mod ask;
+pub mod lines;
+pub mod walk;
+
+use crate::lines::put_broken;
+use crate::lines::put_commands;
+use crate::walk::open;
+use crate::walk::turn;
+ghost use mathlib.Core.Path.{_≡_};
+ghost use Rattle.nightrun.specs.Walk.{Lists};
+
+// What writing a whole listing gives: its length, or that the output could be too short for one.
+pub enum Listed {
+    Written(usize),
+    TooShort,
+}
+
+// No listing of a file of at most 65,536 bytes is longer.
+pub const LONGEST: usize = 2600000;
+
+// The whole listing, at the front of the output; what is past it stays.
+pub fn list(file: &[u8], out: &mut [u8]) -> Listed
+    ensures { λ r. ⌜ Lists (now (file .entry)) (now (out .entry)) (now (out .exit)) r ⌝ }
+{
+    if out.len() < LONGEST {
+        return Listed::TooShort;
+    }
+    let mut store = [0u16; 4096];
+    let mut plaques = [0u8; 16384];
+    let o = open(file, state::fresh(), &store, &mut plaques);
+    if !o.fine {
+        return Listed::Written(put_broken(out, 0));
+    }
+    let mut w = o.walk;
+    let mut s = o.state;
+    let mut to = put_commands(out, 0, w.left);
+    while !w.ended {
+        let t = turn(file, w, s, &mut store, &mut plaques, out, to);
+        w = t.walk;
+        s = t.state;
+        to = t.at;
+    }
+    Listed::Written(to)
+}
