@@ -1,8 +1,7 @@
 // A command, on a machine that is known to be consistent.
 use answers::refused;
-use command::reader::command_data;
-use command::reader::read_command;
-use command::table::row_of;
+use command::command_data;
+use command::read_command;
 use desk::govern;
 use meaning::packet::Command;
 use meaning::packet::CommandRead;
@@ -12,6 +11,7 @@ use promise::Called;
 use reading::mode::start;
 use reading::mode::stop;
 use state::State;
+use table::row_of;
 use units::Form;
 use units::stamp::Stamp;
 ghost use mathlib.Core.Path.{_≡_};

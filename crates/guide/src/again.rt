@@ -1,5 +1,5 @@
 // A packet written again from what was read, and compared with the words lent.
-use command::writer::write_command;
+use commandout::write_command;
 use meaning::packet::Command;
 use meaning::packet::Response;
 use meaning::packet::Written;
