@@ -3,7 +3,7 @@ use commandout::write_command;
 use meaning::packet::Command;
 use meaning::packet::Response;
 use meaning::packet::Written;
-use response::writer::write_response;
+use responseout::write_response;
 use units::Form;
 ghost use mathlib.Core.Path.{_≡_};
 ghost use mathlib.Core.Bool.{_&&_};
