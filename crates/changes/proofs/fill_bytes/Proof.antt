@@ -5,8 +5,8 @@ use Prim.Native.Nat.{ℕ, _+_, _-_, _≤_, _<_}
 use mathlib.Core.Path.{_≡_, refl, sym, ap, _∙_}
 use lib.Seq.{paste, paste-zero, paste-suc}
 use lib.ListN.{length, getD, set, replicate, length-set, length-replicate, getD-replicate}
-use Rattle.orders.proofs.fill_bytes.Statement.{statement}
-use Rattle.orders.proofs.fill_bytes.Tie as tie
+use Rattle.changes.proofs.fill_bytes.Statement.{statement}
+use Rattle.changes.proofs.fill_bytes.Tie as tie
 
 abbrev Inv-loop : tie.InvT-loop
 Inv-loop dst₀ from size byte j₀ dst j = (j ≤ size) × (length dst ≡ length dst₀) × (dst ≡ paste dst₀ from (replicate size byte) j)

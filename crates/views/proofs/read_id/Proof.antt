@@ -4,9 +4,10 @@ use native.Mathlib.Omega.{arith}
 use lib.ListN.{length}
 use borrow.Author.Needs.{needs}
 use Rattle.answers.proofs.Replies.{called}
-use Rattle.orders.proofs.Outcomes.{plaqueAt, first, index, node-index, good-answerable, id-bytes, id-makes}
-use Rattle.orders.proofs.read_id.Statement.{statement}
-use Rattle.orders.proofs.read_id.Tie as tie
+use Rattle.present.proofs.Outcomes.{plaqueAt, first, index, node-index, good-answerable, id-bytes}
+use Rattle.views.proofs.Outcomes.{id-makes}
+use Rattle.views.proofs.read_id.Statement.{statement}
+use Rattle.views.proofs.read_id.Tie as tie
 
 sub-i : tie.Need-sub-i
 sub-i c = first (c .before .before .before .pre .orderly)

@@ -1,9 +1,10 @@
 use Prim.Native.Nat.{_-_}
 use borrow.Author.Needs.{needs}
 use Rattle.answers.proofs.Replies.{called}
-use Rattle.orders.proofs.Outcomes.{is-past, not-past, first, index, node-index, good-answerable, in-memory, lent-short, read-over, read-makes}
-use Rattle.orders.proofs.read.Statement.{statement}
-use Rattle.orders.proofs.read.Tie as tie
+use Rattle.present.proofs.Outcomes.{is-past, not-past, first, index, node-index, good-answerable, in-memory}
+use Rattle.views.proofs.Outcomes.{lent-short, read-over, read-makes}
+use Rattle.views.proofs.read.Statement.{statement}
+use Rattle.views.proofs.read.Tie as tie
 
 sub-i : tie.Need-sub-i
 sub-i c = first (c .before .before .before .pre .orderly)

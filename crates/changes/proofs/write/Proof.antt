@@ -3,9 +3,10 @@ use lib.Dec.{lit≤}
 use borrow.Author.Needs.{needs}
 use borrow.Author.Tests.{not-true, not-false}
 use Rattle.answers.proofs.Replies.{called}
-use Rattle.orders.proofs.Outcomes.{is-past, not-past, first, index, node-index, good-answerable, in-memory, write-over, write-13, write-makes}
-use Rattle.orders.proofs.write.Statement.{statement}
-use Rattle.orders.proofs.write.Tie as tie
+use Rattle.present.proofs.Outcomes.{is-past, not-past, first, index, node-index, good-answerable, in-memory}
+use Rattle.changes.proofs.Outcomes.{write-over, write-13, write-makes}
+use Rattle.changes.proofs.write.Statement.{statement}
+use Rattle.changes.proofs.write.Tie as tie
 
 sub-i : tie.Need-sub-i
 sub-i c = first (c .before .before .before .pre .orderly)

@@ -2,9 +2,10 @@ use Prim.Native.Nat.{_-_, _≤_}
 use lib.Dec.{lit≤}
 use borrow.Author.Needs.{needs}
 use Rattle.answers.proofs.Replies.{called}
-use Rattle.orders.proofs.Outcomes.{first, node-index, good-answerable, search-makes}
-use Rattle.orders.proofs.search.Statement.{statement}
-use Rattle.orders.proofs.search.Tie as tie
+use Rattle.present.proofs.Outcomes.{first, node-index, good-answerable}
+use Rattle.views.proofs.Outcomes.{search-makes}
+use Rattle.views.proofs.search.Statement.{statement}
+use Rattle.views.proofs.search.Tie as tie
 
 sub-i : tie.Need-sub-i
 sub-i c = first (c .before .before .before .pre .orderly)

@@ -3,9 +3,10 @@ use lib.Dec.{lit≤}
 use borrow.Author.Needs.{needs}
 use borrow.Author.Tests.{not-true, not-false}
 use Rattle.answers.proofs.Replies.{called}
-use Rattle.orders.proofs.Outcomes.{is-past, not-past, first, index, node-index, good-answerable, in-memory, fill-over, fill-13, fill-makes}
-use Rattle.orders.proofs.fill.Statement.{statement}
-use Rattle.orders.proofs.fill.Tie as tie
+use Rattle.present.proofs.Outcomes.{is-past, not-past, first, index, node-index, good-answerable, in-memory}
+use Rattle.changes.proofs.Outcomes.{fill-over, fill-13, fill-makes}
+use Rattle.changes.proofs.fill.Statement.{statement}
+use Rattle.changes.proofs.fill.Tie as tie
 
 sub-i : tie.Need-sub-i
 sub-i c = first (c .before .before .before .pre .orderly)
