@@ -1,4 +1,4 @@
-use Rattle.gateway.proofs.Packets.{instead, not-gateway}
+use Rattle.obey.proofs.Packets.{instead, not-gateway}
 use mathlib.Core.Path.{ap, subst}
 use denote.Ref.{now}
 use Rattle.meaning.specs.Bench.{full}
@@ -11,10 +11,10 @@ use Rattle.promise.proofs.Promises.{does-refused}
 use Rattle.answers.specs.Ordered.{loadOf}
 use Rattle.answers.proofs.Replies.{called}
 use Rattle.desk.specs.Ruled.{governing}
-use Rattle.gateway.specs.Taken.{heeding, ToldOf}
+use Rattle.obey.specs.Taken.{heeding, ToldOf}
 use borrow.Author.Needs.{needs}
-use Rattle.gateway.proofs.obey.rule.Statement.{statement}
-use Rattle.gateway.proofs.obey.rule.Tie as tie
+use Rattle.obey.proofs.rule.Statement.{statement}
+use Rattle.obey.proofs.rule.Tie as tie
 
 enum-known-kind : tie.Need-enum-known-kind
 enum-known-kind c = search needs

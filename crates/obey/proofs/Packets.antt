@@ -20,7 +20,7 @@ use Rattle.meaning.specs.Bench.{Bench, hub, isNode}
 use Rattle.meaning.specs.Gateway.{Gateway}
 use Rattle.meaning.specs.Table.{_to_, carries, carried}
 use Rattle.meaning.specs.Command.{bodyOf, commandOf, commandDoubts, commandResult, readCommand, commandData}
-use Rattle.meaning.specs.Call.{Call, Said, Outcome, command, asked, judged, commandIn, kindIn, bytesIn, atReader, atHub, named, serves, step}
+use Rattle.meaning.specs.Call.{Said, Outcome, command, asked, judged, commandIn, kindIn, bytesIn, atReader, atHub, named, serves, step}
 use Rattle.meaning.specs.declared.table.OnPlaque.{OnPlaque}
 use Rattle.meaning.specs.declared.table.OnPlaque.the-variants.{Fill, Read, Write, ReadId, Search}
 use Rattle.meaning.specs.declared.table.OfGateway.the-variants.{GetName, SetName, Initialise, ResetGateway, Clear}
@@ -36,14 +36,12 @@ use Rattle.demands.specs.Sound.{Sound}
 use Rattle.state.specs.Machine.{Machine, meaning}
 use Rattle.state.specs.Consistent.{unfit}
 use Rattle.answers.specs.Ordered.{loadOf, ordered, Ready}
-use Rattle.promise.specs.Obeyed.{Does, Obeyed, replied, written, Collects}
-use Rattle.promise.specs.declared.Handout.{Handout}
+use Rattle.promise.specs.Obeyed.{Does}
 use Rattle.promise.proofs.Tables.{hub-apart}
-use Rattle.promise.proofs.Promises.{unlent}
 use Rattle.promise.proofs.Steps.{step-reader, step-hub}
 use Rattle.promise.proofs.Accepted.{rowFor, row-regular, Accepted, accepted, used, reader-suited, reads}
 use Rattle.desk.specs.Ruled.{Told}
-use Rattle.gateway.specs.Taken.{kindOf, heeding, taking, ToldOf, Taken}
+use Rattle.obey.specs.Taken.{kindOf, heeding, taking, ToldOf, Taken}
 
 -- ---- what the reader's result says of the packet
 never : {m : Command} {n : ℕ} → C.Refused n ≡ C.Accepted m → ⊥
@@ -154,14 +152,3 @@ not-gateway P K.ResetReader e a c r u = r
 not-gateway P (K.Gateway k) e a c r u =
     absurd (keys (λ (x : ℕ). T (not (eqb x 3))) (0 ∷ 1 ∷ 2 ∷ 4 ∷ []) 3 e (tt, (tt, (tt, (tt, tt)))))
 not-gateway P K.Unknown e a c r u = u
-
--- ---- collect, where what is lent is at fault
-pub collect-unlent : (b : Bench) (m : Machine) (c : Call) (k : ℕ) (out : List ℕ) → unfit b m ≡ k → (k ≡ 0 → ⊥) → Collects b c m (Handout.Refused k) out out
-unfolding replied written
-collect-unlent b m c k out e d =
-    let o = unlent b m c k e d in
-    record {
-      reply = ap replied (o .says);
-      output = ap (λ (s : Said). written s out) (o .says);
-      obeyed = subst (λ (s : Said). Obeyed b c m s m) (o .says) o;
-    }

@@ -1,4 +1,4 @@
-use Rattle.gateway.proofs.Packets.{read-refused, taken, step-taken, instead}
+use Rattle.obey.proofs.Packets.{read-refused, taken, step-taken, instead}
 use mathlib.Core.Path.{sym, _∙_}
 use denote.Ref.{now}
 use borrow.Author.Tests.{not-true, not-false}
@@ -11,8 +11,8 @@ use Rattle.promise.specs.Obeyed.{spoken}
 use Rattle.promise.proofs.Commands.{commanded-3, commanded-refused}
 use Rattle.answers.proofs.Replies.{stepped, called}
 use borrow.Author.Needs.{needs}
-use Rattle.gateway.proofs.obey.obey.Statement.{statement}
-use Rattle.gateway.proofs.obey.obey.Tie as tie
+use Rattle.obey.proofs.obey.Statement.{statement}
+use Rattle.obey.proofs.obey.Tie as tie
 
 is-valid-requires : tie.Need-is-valid-requires
 is-valid-requires c κs = search needs

@@ -1,4 +1,4 @@
-use Rattle.gateway.proofs.Packets.{instead}
+use Rattle.obey.proofs.Packets.{instead}
 use mathlib.Core.Path.{ap, subst}
 use denote.Ref.{now}
 use Rattle.meaning.specs.Bench.{full}
@@ -11,8 +11,8 @@ use Rattle.promise.proofs.Promises.{does-refused}
 use Rattle.answers.specs.Ordered.{loadOf, ordered, Orderly}
 use Rattle.answers.proofs.Replies.{called}
 use borrow.Author.Needs.{needs}
-use Rattle.gateway.proofs.obey.order.Statement.{statement}
-use Rattle.gateway.proofs.obey.order.Tie as tie
+use Rattle.obey.proofs.order.Statement.{statement}
+use Rattle.obey.proofs.order.Tie as tie
 
 enum-known-kind : tie.Need-enum-known-kind
 enum-known-kind c = search needs

@@ -21,7 +21,7 @@ ghost use Rattle.state.specs.Machine.{machine, meaning};
 ghost use Rattle.state.specs.Consistent.{unfit};
 ghost use Rattle.promise.specs.Obeyed.{Makes};
 ghost use Rattle.answers.specs.Ordered.{loadOf, ordered, Orderly};
-ghost use Rattle.gateway.specs.Taken.{heeding, taking, Heeded, Taken};
+ghost use Rattle.obey.specs.Taken.{heeding, taking, Heeded, Taken};
 
 // A command for a reader, by its kind.
 fn order(

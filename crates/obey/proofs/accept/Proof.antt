@@ -1,4 +1,4 @@
-use Rattle.gateway.proofs.Packets.{taken, taking-hub, taking-reader, instead}
+use Rattle.obey.proofs.Packets.{taken, taking-hub, taking-reader, instead}
 use mathlib.Core.Path.{sym, ap, _∙_, subst}
 use mathlib.Core.Bool.{not}
 use denote.Ref.{now}
@@ -9,10 +9,10 @@ use Rattle.meaning.specs.declared.table.Row.{Row}
 use Rattle.state.specs.Machine.{Machine, machine, meaning}
 use Rattle.promise.proofs.Accepted.{reader-suited}
 use Rattle.answers.specs.Ordered.{loadOf, ordered, Orderly}
-use Rattle.gateway.specs.Taken.{heeding, Heeded}
+use Rattle.obey.specs.Taken.{heeding, Heeded}
 use borrow.Author.Needs.{needs}
-use Rattle.gateway.proofs.obey.accept.Statement.{statement}
-use Rattle.gateway.proofs.obey.accept.Tie as tie
+use Rattle.obey.proofs.accept.Statement.{statement}
+use Rattle.obey.proofs.accept.Tie as tie
 
 row-of-requires : tie.Need-row-of-requires
 row-of-requires c κs = search needs
