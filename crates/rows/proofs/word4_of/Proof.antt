@@ -4,10 +4,10 @@ use mathlib.Core.List.{[], _∷_}
 use mathlib.Core.Logic.{⊎-elim}
 use Rattle.meaning.specs.declared.table.Row.{Row}
 use Rattle.meaning.specs.Table.{table, lookup, rowOf}
-use Rattle.table.proofs.Rows.{limits-arm}
+use Rattle.rows.proofs.Rows.{limits-arm}
 use borrow.Author.Needs.{needs}
-use Rattle.table.proofs.word4_of.Statement.{statement}
-use Rattle.table.proofs.word4_of.Tie as tie
+use Rattle.rows.proofs.word4_of.Statement.{statement}
+use Rattle.rows.proofs.word4_of.Tie as tie
 
 limits-requires : tie.Need-limits-requires
 limits-requires c κs = search needs

@@ -1,7 +1,7 @@
 use Rattle.meaning.specs.Table.{carries}
 use borrow.Author.Needs.{needs}
-use Rattle.table.proofs.carries.Statement.{statement}
-use Rattle.table.proofs.carries.Tie as tie
+use Rattle.rows.proofs.carries.Statement.{statement}
+use Rattle.rows.proofs.carries.Tie as tie
 
 enum-told : tie.Need-enum-told
 enum-told c = search needs

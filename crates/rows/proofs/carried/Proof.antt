@@ -1,7 +1,7 @@
 use Rattle.meaning.specs.Table.{carries, carried}
 use borrow.Author.Needs.{needs}
-use Rattle.table.proofs.carried.Statement.{statement}
-use Rattle.table.proofs.carried.Tie as tie
+use Rattle.rows.proofs.carried.Statement.{statement}
+use Rattle.rows.proofs.carried.Tie as tie
 
 carries-requires : tie.Need-carries-requires
 carries-requires c κs = search needs

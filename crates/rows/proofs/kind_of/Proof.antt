@@ -2,9 +2,9 @@ use native.Mathlib.Omega.{arith}
 use mathlib.Core.List.{[], _∷_}
 use Rattle.meaning.specs.declared.table.Row.{Row}
 use Rattle.meaning.specs.Table.{table, lookup, rowOf}
-use Rattle.table.proofs.Rows.{unknown-arm}
-use Rattle.table.proofs.kind_of.Statement.{statement}
-use Rattle.table.proofs.kind_of.Tie as tie
+use Rattle.rows.proofs.Rows.{unknown-arm}
+use Rattle.rows.proofs.kind_of.Statement.{statement}
+use Rattle.rows.proofs.kind_of.Tie as tie
 
 returns : tie.Need-returns
 unfolding table lookup rowOf

@@ -3,9 +3,9 @@ use mathlib.Core.List.{[], _∷_}
 use mathlib.Core.Logic.{⊎-elim}
 use Rattle.meaning.specs.declared.table.Row.{Row}
 use Rattle.meaning.specs.Table.{table, lookup, rowOf}
-use Rattle.table.proofs.Rows.{nothing-arm}
-use Rattle.table.proofs.load_of.Statement.{statement}
-use Rattle.table.proofs.load_of.Tie as tie
+use Rattle.rows.proofs.Rows.{nothing-arm}
+use Rattle.rows.proofs.load_of.Statement.{statement}
+use Rattle.rows.proofs.load_of.Tie as tie
 
 returns : tie.Need-returns
 unfolding table lookup rowOf

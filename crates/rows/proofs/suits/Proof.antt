@@ -1,7 +1,7 @@
 use Rattle.meaning.specs.Table.{suits}
 use borrow.Author.Needs.{needs}
-use Rattle.table.proofs.suits.Statement.{statement}
-use Rattle.table.proofs.suits.Tie as tie
+use Rattle.rows.proofs.suits.Statement.{statement}
+use Rattle.rows.proofs.suits.Tie as tie
 
 enum-told : tie.Need-enum-told
 enum-told c = search needs
