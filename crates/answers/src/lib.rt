@@ -5,7 +5,7 @@ use meaning::packet::Response;
 use parts::overall;
 use promise::Called;
 use promise::Reply;
-use response::writer::write_response;
+use responseout::write_response;
 use state::State;
 use store::Queued;
 use store::queue;

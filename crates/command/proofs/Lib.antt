@@ -1,4 +1,2 @@
 -- Laws that belong to no one function.
-pub mod Rows
 pub mod Leaves
-pub mod Writable

@@ -1,4 +1,258 @@
-// Command packets: the table of commands, the reader, the writer.
-pub mod reader;
-pub mod table;
-pub mod writer;
+// The reader of command packets: each doubt of the paper in its order, and what an accepted packet says.
+use meaning::packet::Command;
+use meaning::packet::CommandRead;
+use meaning::table::Kind;
+use meaning::table::Limits;
+use meaning::table::REGION;
+use meaning::table::Row;
+use parts::count_wrong;
+use parts::data_words;
+use parts::is_node;
+use parts::length_wrong;
+use parts::spare_wrong;
+use parts::word_no;
+use rows::carried;
+use rows::row_of;
+use rows::suits;
+use units::Form;
+use units::packing::lsb;
+use units::packing::msb;
+ghost use mathlib.Core.Path.{_≡_};
+ghost use Rattle.meaning.specs.Refusal.{refusal};
+ghost use Rattle.meaning.specs.Bench.{full};
+ghost use Rattle.meaning.specs.Table.{rowOf};
+ghost use Rattle.meaning.specs.declared.table.Kind.the-variants.{Continuous};
+ghost use Rattle.meaning.specs.Command.{bodyOf, commandOf, headWrong, headNodeWrong, frameDoubts, whoDoubts, outside, delayWrong, rangeWrong, limitDoubts, stray, unusedDoubts, rowDoubts, commandDoubts, readCommand, commandData};
+
+// The words from Overall Length on.
+fn body_of(words: &[u16], form: Form) -> &[u16]
+    ensures { λ r. ⌜ now r ≡ bodyOf form (now (words .entry)) ⌝ }
+{
+    match form {
+        Form::Register => words,
+        Form::Framed => { if 0 < words.len() { &words[1..] } else { words } }
+    }
+}
+
+// What the words say, whether or not they are accepted.
+fn command_of(body: &[u16]) -> Command
+    ensures { λ r. ⌜ r ≡ commandOf (now (body .entry)) ⌝ }
+{
+    Command {
+        command: lsb(word_no(body, 2)),
+        node: lsb(word_no(body, 3)),
+        word4: word_no(body, 4),
+        start: word_no(body, 5),
+        size: word_no(body, 6),
+    }
+}
+
+// 5, of word 00
+fn head_wrong(words: &[u16], form: Form) -> bool
+    ensures { λ r. ⌜ r ≡ headWrong form (now (words .entry)) ⌝ }
+{
+    match form {
+        Form::Register => false,
+        Form::Framed => msb(word_no(words, 1)) != 0xFF,
+    }
+}
+
+// 6
+fn head_node_wrong(words: &[u16], form: Form, node: u8) -> bool
+    ensures { λ r. ⌜ r ≡ headNodeWrong form (now (words .entry)) node ⌝ }
+{
+    match form {
+        Form::Register => false,
+        Form::Framed => lsb(word_no(words, 1)) != node,
+    }
+}
+
+// 4 to 6
+fn frame_refusal(words: &[u16], form: Form, body: &[u16]) -> u8
+    ensures { λ r. ⌜ r ≡ refusal (frameDoubts form (now (words .entry)) (now (body .entry))) ⌝ }
+{
+    if count_wrong(body) {
+        return 4;
+    }
+    if head_wrong(words, form) {
+        return 5;
+    }
+    if msb(word_no(body, 2)) != 0xAA {
+        return 5;
+    }
+    if msb(word_no(body, 3)) != 0 {
+        return 5;
+    }
+    if head_node_wrong(words, form, lsb(word_no(body, 3))) {
+        return 6;
+    }
+    0
+}
+
+// 7 and 8
+pub fn who_refusal(row: Row, m: Command) -> u8
+    ensures { λ r. ⌜ r ≡ refusal (whoDoubts full row m) ⌝ }
+{
+    let node = m.node;
+    if !is_node(node) {
+        return 7;
+    }
+    let kind = row.kind;
+    if !suits(kind, node) {
+        return 8;
+    }
+    0
+}
+
+// 10, of a word that is used
+fn outside(l: Limits, value: u16) -> bool
+    ensures { λ r. ⌜ r ≡ outside l value ⌝ }
+{
+    if l.high == 0 {
+        return false;
+    }
+    if value < l.low {
+        return true;
+    }
+    l.high < value
+}
+
+// 10: continuous reading is stopped, and a delay is given.
+fn delay_wrong(kind: Kind, m: Command) -> bool
+    ensures { λ r. ⌜ r ≡ delayWrong kind m ⌝ }
+{
+    match kind {
+        Kind::Continuous => { if m.size == 0 { m.word4 != 0 } else { false } }
+        _ => false,
+    }
+}
+
+fn past_region(m: Command) -> bool
+    ensures { λ r. ⌜ r ≡ rangeWrong (full .region) Continuous m ⌝ }
+{
+    if (REGION as u32) < m.start as u32 + m.size as u32 {
+        return true;
+    }
+    if m.size != 0 {
+        return false;
+    }
+    m.start != 0
+}
+
+// 10: continuous reading past a region, or stopped with a start given.
+fn range_wrong(kind: Kind, m: Command) -> bool
+    ensures { λ r. ⌜ r ≡ rangeWrong (full .region) kind m ⌝ }
+{
+    match kind {
+        Kind::Continuous => past_region(m),
+        _ => false,
+    }
+}
+
+// 10
+pub fn limit_refusal(row: Row, m: Command) -> u8
+    ensures { λ r. ⌜ r ≡ refusal (limitDoubts full row m) ⌝ }
+{
+    let kind = row.kind;
+    let word4 = row.word4;
+    if outside(word4, m.word4) {
+        return 10;
+    }
+    if delay_wrong(kind, m) {
+        return 10;
+    }
+    let start = row.start;
+    if outside(start, m.start) {
+        return 10;
+    }
+    if range_wrong(kind, m) {
+        return 10;
+    }
+    let size = row.size;
+    if outside(size, m.size) {
+        return 10;
+    }
+    0
+}
+
+// 11, of a word that is not used
+fn stray(l: Limits, value: u16) -> bool
+    ensures { λ r. ⌜ r ≡ stray l value ⌝ }
+{
+    if l.high == 0 { value != 0 } else { false }
+}
+
+// 11, of words 04 to 06
+pub fn unused_refusal(row: Row, m: Command) -> u8
+    ensures { λ r. ⌜ r ≡ refusal (unusedDoubts row m) ⌝ }
+{
+    let word4 = row.word4;
+    if stray(word4, m.word4) {
+        return 11;
+    }
+    let start = row.start;
+    if stray(start, m.start) {
+        return 11;
+    }
+    let size = row.size;
+    if stray(size, m.size) {
+        return 11;
+    }
+    0
+}
+
+// 7 to 11, by the command's row
+fn row_refusal(row: Row, m: Command, body: &[u16]) -> u8
+    ensures { λ r. ⌜ r ≡ refusal (rowDoubts full row m (now (body .entry))) ⌝ }
+{
+    let who = who_refusal(row, m);
+    if who != 0 {
+        return who;
+    }
+    let amount = carried(row, m);
+    if length_wrong(amount, body) {
+        return 9;
+    }
+    let limit = limit_refusal(row, m);
+    if limit != 0 {
+        return limit;
+    }
+    let unused = unused_refusal(row, m);
+    if unused != 0 {
+        return unused;
+    }
+    if spare_wrong(amount, body) {
+        return 11;
+    }
+    0
+}
+
+// The refusal of a packet that is read; 0 where it is accepted.
+fn command_refusal(words: &[u16], form: Form) -> u8
+    ensures { λ r. ⌜ r ≡ refusal (commandDoubts full form (now (words .entry))) ⌝ }
+{
+    let body = body_of(words, form);
+    let frame = frame_refusal(words, form, body);
+    if frame != 0 {
+        return frame;
+    }
+    let m = command_of(body);
+    row_refusal(row_of(m.command), m, body)
+}
+
+pub fn read_command(words: &[u16], form: Form) -> CommandRead
+    ensures { λ r. ⌜ r ≡ readCommand full form (now (words .entry)) ⌝ }
+{
+    let n = command_refusal(words, form);
+    if n != 0 {
+        return CommandRead::Refused(n);
+    }
+    CommandRead::Accepted(command_of(body_of(words, form)))
+}
+
+// The data of a packet, from word 07 on: a part of the caller's own words.
+pub fn command_data(words: &[u16], form: Form) -> &[u16]
+    ensures { λ r. ⌜ now r ≡ commandData form (now (words .entry)) ⌝ }
+{
+    data_words(body_of(words, form))
+}

@@ -1,9 +1,9 @@
 // A packet written again from what was read, and compared with the words lent.
-use command::writer::write_command;
+use commandout::write_command;
 use meaning::packet::Command;
 use meaning::packet::Response;
 use meaning::packet::Written;
-use response::writer::write_response;
+use responseout::write_response;
 use units::Form;
 ghost use mathlib.Core.Path.{_≡_};
 ghost use mathlib.Core.Bool.{_&&_};

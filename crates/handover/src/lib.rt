@@ -4,7 +4,7 @@ use answers::slots::node_slot;
 use promise::Called;
 use promise::Handout;
 use promise::Reply;
-use response::writer::bears;
+use responseout::bears;
 use state::State;
 use state::node::Node;
 use store::copy_in;

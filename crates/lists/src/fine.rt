@@ -2,7 +2,7 @@
 use crate::room::charges;
 use crate::room::helds;
 use meaning::packet::ResponseRead;
-use response::reader::read_response;
+use response::read_response;
 use state::State;
 use state::list_of;
 use state::node::Pending;

@@ -1,5 +1,5 @@
 // A command of the night: played, its answer collected in register form and acknowledged.
-use gateway::obey::obey;
+use obey::obey;
 use handover::acknowledge;
 use handover::collect;
 use promise::Handout;

@@ -1,4 +1,3 @@
-use Rattle.gateway.proofs.Packets.{taken}
 use mathlib.Core.Path.{refl, sym, _∙_}
 use denote.Ref.{now}
 use Rattle.meaning.specs.Bench.{full}

@@ -1,4 +1,4 @@
-use Rattle.gateway.proofs.Packets.{taken, collect-unlent}
+use Rattle.gateway.proofs.Faults.{collect-unlent}
 use mathlib.Core.Path.{sym}
 use denote.Ref.{now}
 use lib.ListN.{length}

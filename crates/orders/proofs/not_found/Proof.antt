@@ -1,7 +1,8 @@
 use Prim.Native.Nat.{_-_}
 use borrow.Author.Needs.{needs}
 use Rattle.answers.proofs.Replies.{called}
-use Rattle.orders.proofs.Outcomes.{first, node-index, bad-answerable, not-found-makes}
+use Rattle.present.proofs.Outcomes.{first, node-index}
+use Rattle.orders.proofs.Outcomes.{bad-answerable, not-found-makes}
 use Rattle.orders.proofs.not_found.Statement.{statement}
 use Rattle.orders.proofs.not_found.Tie as tie
 

@@ -3,7 +3,8 @@ use mathlib.Core.Path.{ap, _∙_}
 use borrow.Author.Needs.{needs}
 use borrow.Author.Tests.{not-true, not-false}
 use Rattle.state.specs.declared.reader.Plaque.{Plaque}
-use Rattle.orders.proofs.Outcomes.{first, index, plaque-here, kind-orderly, kind-makes}
+use Rattle.present.proofs.Outcomes.{first, index, plaque-here}
+use Rattle.orders.proofs.Outcomes.{kind-orderly, kind-makes}
 use Rattle.orders.proofs.on_plaque.Statement.{statement}
 use Rattle.orders.proofs.on_plaque.Tie as tie
 

@@ -1,0 +1,114 @@
+use Prim.Native.Nat.{_-_, _≤_}
+use lib.Dec.{lit≤}
+use borrow.Author.Needs.{needs}
+use borrow.Author.Tests.{not-true, not-false}
+use Rattle.answers.proofs.Replies.{called}
+use Rattle.present.proofs.Outcomes.{is-past, not-past, first, index, node-index, good-answerable, in-memory}
+use Rattle.changes.proofs.Outcomes.{fill-over, fill-13, fill-makes}
+use Rattle.changes.proofs.fill.Statement.{statement}
+use Rattle.changes.proofs.fill.Tie as tie
+
+sub-i : tie.Need-sub-i
+sub-i c = first (c .before .before .before .pre .orderly)
+
+cast-i : tie.Need-cast-i
+cast-i c = search needs
+
+mul-x : tie.Need-mul-x
+mul-x c = search needs
+
+element-copy-out-x : tie.Need-element-copy-out-x
+element-copy-out-x c = index (c .before .before .before .pre .orderly)
+
+past-requires : tie.Need-past-requires
+past-requires c κs = search needs
+
+refused-requires : tie.Need-refused-requires
+refused-requires c κs = search needs
+
+returns : tie.Need-returns
+returns c = called (c .refused .ensures) (fill-over (is-past (c .before .before .past .ensures) (c .before .if1 .taken)) (c .before .before .before .before .before .before .before .before .pre))
+
+mul-n : tie.Need-mul-n
+mul-n c = search needs
+
+element-copy-out-n : tie.Need-element-copy-out-n
+element-copy-out-n c = node-index (c .before .before .before .before .before .before .before .pre .orderly)
+
+response-requires : tie.Need-response-requires
+response-requires c κs = search needs
+
+slice-aggregate-answer : tie.Need-slice-aggregate-answer
+slice-aggregate-answer c = search needs
+
+answer-requires : tie.Need-answer-requires
+answer-requires c κs = good-answerable (c .before .before .before .before .before .before .before .before .before .before .before .pre .orderly) (c .before .before .response .ensures) 0 (lit≤ tt)
+
+settled-requires : tie.Need-settled-requires
+settled-requires c κs = search needs
+
+same-length : tie.Need-same-length
+same-length c = search needs
+
+returns-2 : tie.Need-returns-2
+returns-2 c = called (c .settled .ensures) (fill-13 (c .before .before .before .before .before .answer .result) (not-past (c .before .before .before .before .before .before .before .before .before .before .before .past .ensures) (c .before .before .before .before .before .before .before .before .before .before .if1 .left)) (c .before .before .before .before .before .before .before .before .before .before .before .before .before .before .before .before .before .pre) (c .before .before .before .before .before .before .before .before .response .ensures) (c .before .before .before .before .before .answer .ensures) (not-true _ (c .before .if2 .taken)))
+
+mul-at : tie.Need-mul-at
+mul-at c = let i = index (c .before .before .before .before .before .before .before .before .before .before .before .before .before .before .before .before .pre .orderly) in search needs
+
+cast-at : tie.Need-cast-at
+cast-at c = search needs
+
+add-at : tie.Need-add-at
+add-at c = search needs
+
+cast-fill-bytes : tie.Need-cast-fill-bytes
+cast-fill-bytes c = search needs
+
+byte-at-requires : tie.Need-byte-at-requires
+byte-at-requires c κs = search needs
+
+fill-bytes-requires : tie.Need-fill-bytes-requires
+fill-bytes-requires c κs = in-memory (c .before .before .before .before .before .before .before .before .before .before .before .before .before .before .before .before .before .before .before .before .pre) (not-past (c .before .before .before .before .before .before .before .before .before .before .before .before .before .before .past .ensures) (c .before .before .before .before .before .before .before .before .before .before .before .before .before .if1 .left))
+
+settled-requires-2 : tie.Need-settled-requires-2
+settled-requires-2 c κs = search needs
+
+same-length-2 : tie.Need-same-length-2
+same-length-2 c = search needs
+
+same-length-3 : tie.Need-same-length-3
+same-length-3 c = search needs
+
+returns-3 : tie.Need-returns-3
+returns-3 c = called (c .settled2 .ensures) (fill-makes (c .before .before .before .before .before .before .before .before .before .before .before .before .answer .result) (not-past (c .before .before .before .before .before .before .before .before .before .before .before .before .before .before .before .before .before .before .past .ensures) (c .before .before .before .before .before .before .before .before .before .before .before .before .before .before .before .before .before .if1 .left)) (c .before .before .before .before .before .before .before .before .before .before .before .before .before .before .before .before .before .before .before .before .before .before .before .before .pre) (c .before .before .before .before .before .before .before .before .before .before .before .before .before .before .before .response .ensures) (c .before .before .before .before .before .before .before .before .before .before .before .before .answer .ensures) (not-false _ (c .before .before .before .before .before .before .before .before .if2 .left)) (c .before .before .before .before .byte-at .ensures) (c .before .before .before .fill-bytes .ensures))
+
+pub fill-spec : {M : Type 1} → statement M
+fill-spec =
+    tie.close
+    (tie.spec
+    sub-i
+    cast-i
+    mul-x
+    element-copy-out-x
+    past-requires
+    refused-requires
+    returns
+    mul-n
+    element-copy-out-n
+    response-requires
+    slice-aggregate-answer
+    answer-requires
+    settled-requires
+    same-length
+    returns-2
+    mul-at
+    cast-at
+    add-at
+    cast-fill-bytes
+    byte-at-requires
+    fill-bytes-requires
+    settled-requires-2
+    same-length-2
+    same-length-3
+    returns-3)

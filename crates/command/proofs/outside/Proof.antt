@@ -1,0 +1,23 @@
+use mathlib.Core.Path.{sym, ap, _∙_}
+use borrow.Author.Tests.{eq-eqb, ne-eqb, le-leb, lt-leb}
+use Rattle.units.proofs.Choice.{yes-and, no-and}
+use Rattle.command.proofs.Leaves.{ltb-not-leb}
+use mathlib.Core.Bool.{not}
+use Rattle.meaning.specs.Command.{outside}
+use Rattle.command.proofs.outside.Statement.{statement}
+use Rattle.command.proofs.outside.Tie as tie
+
+returns : tie.Need-returns
+unfolding outside
+returns c = sym (no-and _ (ap not (eq-eqb _ _ (c .if1 .taken))))
+
+returns-2 : tie.Need-returns-2
+unfolding outside
+returns-2 c = sym (yes-and (ap not (ne-eqb _ _ (c .before .before .if1 .left))) ∙ ap not (no-and _ (lt-leb _ _ (c .if2 .taken))))
+
+returns-3 : tie.Need-returns-3
+unfolding outside
+returns-3 c = ltb-not-leb (c .before .before .before .before .before .args .l .high) (c .before .before .before .before .before .args .value) ∙ sym (yes-and (ap not (ne-eqb _ _ (c .before .before .before .if1 .left))) ∙ ap not (yes-and (le-leb _ _ (c .before .if2 .left))))
+
+pub outside-spec : {M : Type 1} → statement M
+outside-spec = tie.close (tie.spec returns returns-2 returns-3)

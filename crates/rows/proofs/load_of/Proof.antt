@@ -1,0 +1,23 @@
+use native.Mathlib.Omega.{arith}
+use mathlib.Core.List.{[], _∷_}
+use mathlib.Core.Logic.{⊎-elim}
+use Rattle.meaning.specs.declared.table.Row.{Row}
+use Rattle.meaning.specs.Table.{table, lookup, rowOf}
+use Rattle.rows.proofs.Rows.{nothing-arm}
+use Rattle.rows.proofs.load_of.Statement.{statement}
+use Rattle.rows.proofs.load_of.Tie as tie
+
+returns : tie.Need-returns
+unfolding table lookup rowOf
+returns c = rw (c .match .keys1)
+
+returns-2 : tie.Need-returns-2
+unfolding table lookup rowOf
+returns-2 c = ⊎-elim (λ e. rw e) (λ e. rw e) (c .match .keys2)
+
+returns-3 : tie.Need-returns-3
+unfolding table lookup rowOf
+returns-3 c = nothing-arm (λ (r : Row). r .load) ((4 ∷ []) ∷ (6 ∷ 33 ∷ []) ∷ []) 0 256 _ (c .match .rest) (omega arith) (omega arith) tt
+
+pub load-of-spec : {M : Type 1} → statement M
+load-of-spec = tie.close (tie.spec returns returns-2 returns-3)
