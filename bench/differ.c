@@ -23,7 +23,10 @@ struct options {
     bool night, console;
 };
 
-static struct buffer plain_out, ours_out, struck_in, struck_out, kept_out;
+static struct buffer plain_out, ours_out;
+#ifdef OURS_CONSOLE
+static struct buffer struck_in, struck_out, kept_out;
+#endif
 
 /* Room for so many bytes; what was in the buffer is lost. */
 static void make_room(struct buffer *b, size_t room)
@@ -40,11 +43,13 @@ static void make_room(struct buffer *b, size_t room)
     }
 }
 
+#ifdef OURS_CONSOLE
 static void append(struct buffer *b, const uint8_t *bytes, size_t n)
 {
     memcpy(b->bytes + b->n, bytes, n);
     b->n += n;
 }
+#endif
 
 static void play(play_fn *side, const uint8_t *in, size_t n, struct buffer *out, size_t room)
 {
@@ -56,7 +61,9 @@ static void play(play_fn *side, const uint8_t *in, size_t n, struct buffer *out,
     }
 }
 
+#ifdef OURS_CONSOLE
 static size_t console_room(size_t n) { return 64 * n + 1024; }
+#endif
 
 static bool same(const struct buffer *a, const struct buffer *b)
 {
@@ -123,7 +130,7 @@ static uint64_t compare_files(const struct options *o)
         size_t n = generate_file(o->seed + i, file);
 
         play(plain_night, file, n, &plain_out, NIGHT_LISTING_MAX);
-        play(ours_night, file, n, &ours_out, NIGHT_LISTING_MAX);
+        play(rashdumof_night, file, n, &ours_out, NIGHT_LISTING_MAX);
         if (!same(&plain_out, &ours_out) && differ++ < SHOWN)
             report("night", o->seed + i, file, n, &plain_out, &ours_out);
     }
@@ -131,6 +138,7 @@ static uint64_t compare_files(const struct options *o)
     return differ;
 }
 
+#ifdef OURS_CONSOLE
 static uint64_t compare_talks(const struct options *o, struct talk *t)
 {
     uint64_t differ = 0;
@@ -138,7 +146,7 @@ static uint64_t compare_talks(const struct options *o, struct talk *t)
     for (uint64_t i = 0; i < o->talks; i++) {
         generate_talk(o->seed + i, t);
         play(plain_console, t->text, t->used, &plain_out, console_room(t->used));
-        play(ours_console, t->text, t->used, &ours_out, console_room(t->used));
+        play(rashdumof_console, t->text, t->used, &ours_out, console_room(t->used));
         if (!same(&plain_out, &ours_out) && differ++ < SHOWN)
             report("console", o->seed + i, t->text, t->used, &plain_out, &ours_out);
     }
@@ -174,7 +182,7 @@ static bool struck_differs(const struct talk *t, unsigned i, uint64_t seed, bool
 {
     keep_lines(t, i, t->text, t->used, &struck_in);
     keep_lines(t, i, ours_out.bytes, ours_out.n, &kept_out);
-    play(ours_console, struck_in.bytes, struck_in.n, &struck_out, console_room(struck_in.n));
+    play(rashdumof_console, struck_in.bytes, struck_in.n, &struck_out, console_room(struck_in.n));
     if (same(&kept_out, &struck_out))
         return false;
     if (show_it) {
@@ -192,7 +200,7 @@ static uint64_t compare_struck_out(const struct options *o, struct talk *t)
         uint32_t gentle = generate_flood(o->seed + k, t);
         bool differs = false;
 
-        play(ours_console, t->text, t->used, &ours_out, console_room(t->used));
+        play(rashdumof_console, t->text, t->used, &ours_out, console_room(t->used));
         for (unsigned i = 1; i <= READERS; i++)
             if (gentle >> i & 1)
                 differs |= struck_differs(t, i, o->seed + k, !differs && differ < SHOWN);
@@ -202,6 +210,7 @@ static uint64_t compare_struck_out(const struct options *o, struct talk *t)
            (unsigned long long)differ);
     return differ;
 }
+#endif
 
 /* ---- */
 
@@ -251,10 +260,12 @@ int main(int argc, char **argv)
     }
     if (o.night)
         differ += compare_files(&o);
+#ifdef OURS_CONSOLE
     if (o.console) {
         differ += compare_talks(&o, &t);
         differ += compare_struck_out(&o, &t);
     }
+#endif
     free(t.text);
     free(t.whom);
     return differ == 0 ? 0 : 1;

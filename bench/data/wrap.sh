@@ -2,7 +2,7 @@
 # A conversation in which reader 1's handover number wraps: 65,535 is followed by 1. It has 2.6 MB, so
 # it is made and not kept. Reports with delay 0 and their acknowledgements are the shortest way: 40 bytes
 # a step. Its last lines out are those of wrap.tail:
-#   sh wrap.sh | plain-console | tail -n 12 | cmp - wrap.tail
+#   sh bench/data/wrap.sh | target/bench/plain-console | tail -n 12 | cmp - bench/data/wrap.tail
 awk 'BEGIN {
     print "arrive 1 E0040100002E16AD 11"
     print "command 3 19 10 11 36 register 0006 AA0D 0001 0000 0000 0001"

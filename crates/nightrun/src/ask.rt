@@ -1,7 +1,7 @@
 // A command of the night: played, its answer collected in register form and acknowledged.
-use obey::obey;
 use handover::acknowledge;
 use handover::collect;
+use obey::obey;
 use promise::Handout;
 use promise::Reply;
 use state::State;
