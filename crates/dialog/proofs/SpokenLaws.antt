@@ -1,0 +1,288 @@
+-- Laws of the calls of the table: numbers one after another, and what makes a line each call.
+-- Assumes nothing.
+use Prim.Native.Nat.{ℕ, _≤_, _<_}
+use mathlib.Core.Path.{_≡_, refl, sym, ap, _∙_}
+use mathlib.Core.Bool.{Bool, true, false, cond, _&&_, _||_, false≢true}
+use mathlib.Core.List.{List, [], _∷_, _++_}
+use native.Mathlib.Omega.{arith}
+use native.Mathlib.Decide.{decLt}
+use lib.Dec.{leb, ltb, eqb}
+use lib.ListN.{length, getD, drop, length-map, List·getD-eq-default}
+use borrow.Author.Tests.{lt-ltb, le-ltb, le-leb, leb-true, eq-eqb, ne-eqb, eqb-true}
+use Rattle.units.specs.Count.{every}
+use Rattle.units.proofs.Choice.{yes-cond, no-cond, yes-or, no-or, and-true}
+use Rattle.meaning.specs.Call.{same, Call, command, check, arrive, leave, collect, acknowledge}
+use Rattle.dialog.specs.Fields.{fields, numberOk, wordOk, wordOf, bytesOk, bytesOf}
+use Rattle.dialog.specs.Spoken.{Spoken, passed, unreadable, call, callBy, spoken, saying, isForm, numbersOk, aNode, aNodeAndNumber, aStamp, aNodeAStampAndAClock, field, number, stampFrom}
+use Rattle.dialog.specs.Spoken.{commandOk, checkOk, arriveOk, leaveOk, collectOk, acknowledgeOk}
+use Rattle.dialog.specs.Spoken.{commandSaid, checkSaid, arriveSaid, leaveSaid, collectSaid, acknowledgeSaid, formOf, commandWords}
+use Rattle.text.specs.Text.{ascii}
+use Rattle.dialog.proofs.HexLaws.{bytes-few}
+use Rattle.dialog.proofs.FieldLaws.{both, nowise, number-is, of-number}
+
+-- ---- a line that is a call, and one that is none
+said : (ok : Bool) (c : Call) → ok ≡ true → saying ok c ≡ call c
+said ok c e = yes-cond _ e
+
+unsaid : (ok : Bool) (c : Call) → (ok ≡ true → ⊥) → saying ok c ≡ unreadable
+unsaid ok c h = no-cond _ (nowise ok h)
+
+-- ---- numbers one after another
+and-assoc : (a b c : Bool) → ((a && b) && c) ≡ (a && (b && c))
+and-assoc true b c = refl
+and-assoc false b c = refl
+
+and-yes : (a : Bool) → (a && true) ≡ a
+and-yes true = refl
+and-yes false = refl
+
+pub numbers-enough : (ms : List ℕ) (fs : List (List ℕ)) → numbersOk ms fs ≡ true → length ms ≤ length fs
+unfolding numbersOk
+numbers-enough [] fs e = omega arith
+numbers-enough (m ∷ ms) [] e = absurd (false≢true e)
+numbers-enough (m ∷ ms) (f ∷ fs) e = let h = numbers-enough ms fs (and-true (numberOk m f) (numbersOk ms fs) e .1) in omega arith
+
+pub numbers-split : (ms ns : List ℕ) (fs : List (List ℕ)) → numbersOk (ms ++ ns) fs ≡ (numbersOk ms fs && numbersOk ns (drop (length ms) fs))
+unfolding numbersOk
+numbers-split [] ns fs = refl
+numbers-split (m ∷ ms) ns [] = refl
+numbers-split (m ∷ ms) ns (f ∷ fs) = ap (λ (x : Bool). numberOk m f && x) (numbers-split ms ns fs) ∙ sym (and-assoc (numberOk m f) (numbersOk ms fs) _)
+
+-- one number
+pub one-number : (most : ℕ) (f : List ℕ) (fs : List (List ℕ)) → numbersOk (most ∷ []) (f ∷ fs) ≡ numberOk most f
+unfolding numbersOk
+one-number most f fs = and-yes (numberOk most f)
+
+pub no-number : (most : ℕ) → numbersOk (most ∷ []) [] ≡ false
+unfolding numbersOk
+no-number most = refl
+
+-- what is within a limit is within a larger one
+pub number-wider : (most wider : ℕ) (fs : List (List ℕ)) → most ≤ wider → numbersOk (most ∷ []) fs ≡ true → numbersOk (wider ∷ []) fs ≡ true
+number-wider most wider [] h e = absurd (false≢true (sym (no-number most) ∙ e))
+number-wider most wider (f ∷ fs) h e =
+    let n = of-number most f (sym (one-number most f fs) ∙ e) in
+    one-number wider f fs ∙ number-is wider f (n .least) (n .short) (n .digits) (omega (arith, n .few))
+
+-- the first numbers of a check
+abbrev nodeAndStamp : List ℕ
+nodeAndStamp = 255 ∷ 255 ∷ 255 ∷ 255 ∷ 255 ∷ 255 ∷ []
+
+-- ---- the calls
+module _ (fs : List (List ℕ)) where
+  pub record IsCommand : Type 0 where
+    pub stamp : numbersOk aStamp fs ≡ true
+    pub form : isForm (field fs 5) ≡ true
+    pub few : length (drop 6 fs) ≤ 256
+    pub words : every wordOk (drop 6 fs) ≡ true
+
+  pub record IsCheck : Type 0 where
+    pub node : numbersOk aNode fs ≡ true
+    pub stamp : numbersOk aStamp (drop 1 fs) ≡ true
+    pub clock : numbersOk (4294967295 ∷ []) (drop 6 fs) ≡ true
+    pub seven : length fs ≡ 7
+
+  pub record IsArrive : Type 0 where
+    pub node : numbersOk aNode fs ≡ true
+    pub three : length fs ≡ 3
+    pub id : bytesOk 16 (field fs 1) ≡ true
+    pub bytes : bytesOk 2047 (field fs 2) ≡ true
+
+  pub record IsLeave : Type 0 where
+    pub node : numbersOk aNode fs ≡ true
+    pub one : length fs ≡ 1
+
+  pub record IsCollect : Type 0 where
+    pub node : numbersOk aNode fs ≡ true
+    pub two : length fs ≡ 2
+    pub form : isForm (field fs 1) ≡ true
+
+  pub record IsAcknowledge : Type 0 where
+    pub node : numbersOk aNode fs ≡ true
+    pub number : numbersOk (65535 ∷ []) (drop 1 fs) ≡ true
+    pub two : length fs ≡ 2
+
+  is-command : IsCommand → commandOk fs ≡ true
+  unfolding commandOk
+  is-command c = both (both (both (c .stamp) (c .form)) (le-leb (length (drop 6 fs)) 256 (c .few))) (c .words)
+
+  of-command : commandOk fs ≡ true → IsCommand
+  unfolding commandOk
+  of-command e =
+      let p = and-true ((numbersOk aStamp fs && isForm (field fs 5)) && leb (length (drop 6 fs)) 256) (every wordOk (drop 6 fs)) e in
+      let q = and-true (numbersOk aStamp fs && isForm (field fs 5)) (leb (length (drop 6 fs)) 256) (p .0) in
+      let r = and-true (numbersOk aStamp fs) (isForm (field fs 5)) (q .0) in
+      record { stamp = r .0; form = r .1; few = leb-true (length (drop 6 fs)) 256 (q .1); words = p .1 }
+
+  is-check : IsCheck → checkOk fs ≡ true
+  unfolding checkOk
+  is-check c =
+      both
+      (numbers-split nodeAndStamp (4294967295 ∷ []) fs ∙ both (numbers-split aNode aStamp fs ∙ both (c .node) (c .stamp)) (c .clock))
+      (eq-eqb (length fs) 7 (c .seven))
+
+  of-check : checkOk fs ≡ true → IsCheck
+  unfolding checkOk
+  of-check e =
+      let p = and-true (numbersOk aNodeAStampAndAClock fs) (eqb (length fs) 7) e in
+      let q = and-true (numbersOk nodeAndStamp fs) (numbersOk (4294967295 ∷ []) (drop 6 fs)) (sym (numbers-split nodeAndStamp (4294967295 ∷ []) fs) ∙ p .0) in
+      let r = and-true (numbersOk aNode fs) (numbersOk aStamp (drop 1 fs)) (sym (numbers-split aNode aStamp fs) ∙ q .0) in record {
+        node = r .0;
+        stamp = r .1;
+        clock = q .1;
+        seven = eqb-true (length fs) 7 (p .1);
+      }
+
+  is-arrive : IsArrive → arriveOk fs ≡ true
+  unfolding arriveOk
+  is-arrive c = both (both (both (c .node) (eq-eqb (length fs) 3 (c .three))) (c .id)) (c .bytes)
+
+  of-arrive : arriveOk fs ≡ true → IsArrive
+  unfolding arriveOk
+  of-arrive e =
+      let p = and-true ((numbersOk aNode fs && eqb (length fs) 3) && bytesOk 16 (field fs 1)) (bytesOk 2047 (field fs 2)) e in
+      let q = and-true (numbersOk aNode fs && eqb (length fs) 3) (bytesOk 16 (field fs 1)) (p .0) in
+      let r = and-true (numbersOk aNode fs) (eqb (length fs) 3) (q .0) in
+      record { node = r .0; three = eqb-true (length fs) 3 (r .1); id = q .1; bytes = p .1 }
+
+  is-leave : IsLeave → leaveOk fs ≡ true
+  unfolding leaveOk
+  is-leave c = both (c .node) (eq-eqb (length fs) 1 (c .one))
+
+  of-leave : leaveOk fs ≡ true → IsLeave
+  unfolding leaveOk
+  of-leave e = let p = and-true (numbersOk aNode fs) (eqb (length fs) 1) e in record { node = p .0; one = eqb-true (length fs) 1 (p .1) }
+
+  is-collect : IsCollect → collectOk fs ≡ true
+  unfolding collectOk
+  is-collect c = both (both (c .node) (eq-eqb (length fs) 2 (c .two))) (c .form)
+
+  of-collect : collectOk fs ≡ true → IsCollect
+  unfolding collectOk
+  of-collect e =
+      let p = and-true (numbersOk aNode fs && eqb (length fs) 2) (isForm (field fs 1)) e in
+      let q = and-true (numbersOk aNode fs) (eqb (length fs) 2) (p .0) in
+      record { node = q .0; two = eqb-true (length fs) 2 (q .1); form = p .1 }
+
+  is-acknowledge : IsAcknowledge → acknowledgeOk fs ≡ true
+  unfolding acknowledgeOk
+  is-acknowledge c = both (numbers-split aNode (65535 ∷ []) fs ∙ both (c .node) (c .number)) (eq-eqb (length fs) 2 (c .two))
+
+  of-acknowledge : acknowledgeOk fs ≡ true → IsAcknowledge
+  unfolding acknowledgeOk
+  of-acknowledge e =
+      let p = and-true (numbersOk aNodeAndNumber fs) (eqb (length fs) 2) e in
+      let q = and-true (numbersOk aNode fs) (numbersOk (65535 ∷ []) (drop 1 fs)) (sym (numbers-split aNode (65535 ∷ []) fs) ∙ p .0) in
+      record { node = q .0; number = q .1; two = eqb-true (length fs) 2 (p .1) }
+
+  pub a-command : IsCommand → commandSaid fs ≡ call (command (stampFrom fs 0) (formOf (field fs 5)) (commandWords fs))
+  a-command c = said (commandOk fs) _ (is-command c)
+
+  pub no-command : (IsCommand → ⊥) → commandSaid fs ≡ unreadable
+  no-command h = unsaid (commandOk fs) _ (λ e. h (of-command e))
+
+  pub a-check : IsCheck → checkSaid fs ≡ call (check (number fs 0) (stampFrom fs 1) (number fs 6))
+  a-check c = said (checkOk fs) _ (is-check c)
+
+  pub no-check : (IsCheck → ⊥) → checkSaid fs ≡ unreadable
+  no-check h = unsaid (checkOk fs) _ (λ e. h (of-check e))
+
+  pub a-arrive : IsArrive → arriveSaid fs ≡ call (arrive (number fs 0) (bytesOf (field fs 1)) (bytesOf (field fs 2)))
+  a-arrive c = said (arriveOk fs) _ (is-arrive c)
+
+  pub no-arrive : (IsArrive → ⊥) → arriveSaid fs ≡ unreadable
+  no-arrive h = unsaid (arriveOk fs) _ (λ e. h (of-arrive e))
+
+  pub a-leave : IsLeave → leaveSaid fs ≡ call (leave (number fs 0))
+  a-leave c = said (leaveOk fs) _ (is-leave c)
+
+  pub no-leave : (IsLeave → ⊥) → leaveSaid fs ≡ unreadable
+  no-leave h = unsaid (leaveOk fs) _ (λ e. h (of-leave e))
+
+  pub a-collect : IsCollect → collectSaid fs ≡ call (collect (formOf (field fs 1)) (number fs 0) 135)
+  a-collect c = said (collectOk fs) _ (is-collect c)
+
+  pub no-collect : (IsCollect → ⊥) → collectSaid fs ≡ unreadable
+  no-collect h = unsaid (collectOk fs) _ (λ e. h (of-collect e))
+
+  pub a-acknowledge : IsAcknowledge → acknowledgeSaid fs ≡ call (acknowledge (number fs 0) (number fs 1))
+  a-acknowledge c = said (acknowledgeOk fs) _ (is-acknowledge c)
+
+  pub no-acknowledge : (IsAcknowledge → ⊥) → acknowledgeSaid fs ≡ unreadable
+  no-acknowledge h = unsaid (acknowledgeOk fs) _ (λ e. h (of-acknowledge e))
+
+  -- a form is one of the fields
+  pub form-there : (k : ℕ) → isForm (field fs k) ≡ true → k < length fs
+  unfolding same
+  form-there k e = elim (decLt k (length fs)) [
+    | yes h ↦ h
+    | no h ↦ absurd (false≢true (sym (ap isForm (List·getD-eq-default fs [] {n = k} (omega arith))) ∙ e))
+  ]
+
+  -- five nodes are a stamp
+  pub stamp-numbers : numbersOk aStamp fs
+      ≡ ((((numbersOk aNode fs && numbersOk aNode (drop 1 fs)) && numbersOk aNode (drop 2 fs)) && numbersOk aNode (drop 3 fs)) && numbersOk aNode (drop 4 fs))
+  stamp-numbers =
+      rw
+      (numbers-split (255 ∷ 255 ∷ 255 ∷ 255 ∷ []) aNode fs, numbers-split (255 ∷ 255 ∷ 255 ∷ []) aNode fs, numbers-split (255 ∷ 255 ∷ []) aNode fs, numbers-split aNode aNode fs)
+
+-- ---- the line
+module _ (line : List ℕ) where
+  pub too-long : 4400 < length line → spoken line ≡ unreadable
+  unfolding spoken
+  too-long h = yes-cond _ (lt-ltb 4400 (length line) h)
+
+  pub empty : length line ≡ 0 → spoken line ≡ passed
+  unfolding spoken
+  empty e = no-cond _ (le-ltb 4400 (length line) (omega arith)) ∙ yes-cond _ (yes-or _ (eq-eqb (length line) 0 e))
+
+  pub comment : length line ≤ 4400 → (length line ≡ 0 → ⊥) → getD line 0 0 ≡ 35 → spoken line ≡ passed
+  unfolding spoken
+  comment h d e =
+      no-cond _ (le-ltb 4400 (length line) h)
+      ∙ yes-cond _ (no-or (ne-eqb (length line) 0 d) ∙ eq-eqb (getD line 0 0) 35 e)
+
+  pub tried : (w : List ℕ) (fs : List (List ℕ)) → length line ≤ 4400 → (length line ≡ 0 → ⊥) → (getD line 0 0 ≡ 35 → ⊥) → fields line ≡ w ∷ fs
+      → spoken line ≡ callBy w fs
+  unfolding spoken
+  tried w fs h d e f =
+      no-cond _ (le-ltb 4400 (length line) h)
+      ∙ no-cond _ (no-or (ne-eqb (length line) 0 d) ∙ ne-eqb (getD line 0 0) 35 e)
+      ∙ ap (λ (gs : List (List ℕ)). callBy (getD gs 0 []) (drop 1 gs)) f
+
+-- ---- what every line that is a call keeps to: its packet, its ID and its plaque have room, and collect lends 135 words
+unfoldable pub Kept : Spoken → Type 0
+Kept passed = Unit {0}
+Kept unreadable = Unit {0}
+Kept (call (command t f ws)) = length ws ≤ 256
+Kept (call (check n t c)) = Unit {0}
+Kept (call (arrive n id s)) = (length id ≤ 16) × (length s ≤ 2047)
+Kept (call (leave n)) = Unit {0}
+Kept (call (collect f n k)) = k ≡ 135
+Kept (call (acknowledge n h)) = Unit {0}
+
+if-said : (ok : Bool) (c : Call) → (ok ≡ true → Kept (call c)) → Kept (saying ok c)
+unfolding Kept
+if-said true c h = h refl
+if-said false c h = tt
+
+either : (t : Bool) (a b : Spoken) → Kept a → Kept b → Kept (cond t a b)
+either true a b p q = p
+either false a b p q = q
+
+by-kept : (w : List ℕ) (fs : List (List ℕ)) → Kept (callBy w fs)
+unfolding Kept callBy
+by-kept w fs =
+    either (same w (ascii "command")) _ _ (if-said (commandOk fs) _ (λ e. rw (length-map (drop 6 fs) wordOf) (of-command fs e .few)))
+    (either (same w (ascii "check")) _ _ (if-said (checkOk fs) _ (λ e. tt))
+    (either (same w (ascii "arrive")) _ _
+    (if-said (arriveOk fs) _ (λ e. (bytes-few 16 (field fs 1) (of-arrive fs e .id), bytes-few 2047 (field fs 2) (of-arrive fs e .bytes))))
+    (either (same w (ascii "leave")) _ _ (if-said (leaveOk fs) _ (λ e. tt))
+    (either (same w (ascii "collect")) _ _ (if-said (collectOk fs) _ (λ e. refl))
+    (either (same w (ascii "acknowledge")) _ _ (if-said (acknowledgeOk fs) _ (λ e. tt)) tt)))))
+
+pub spoken-kept : (line : List ℕ) → Kept (spoken line)
+unfolding Kept spoken
+spoken-kept line =
+    either (ltb 4400 (length line)) _ _ tt
+    (either (eqb (length line) 0 || eqb (getD line 0 0) 35) _ _ tt (by-kept (getD (fields line) 0 []) (drop 1 (fields line))))

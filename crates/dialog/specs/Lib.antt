@@ -1,0 +1,4 @@
+pub mod Fields
+pub mod Spoken
+pub mod Dialog
+pub mod Cases

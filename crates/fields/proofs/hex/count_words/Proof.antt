@@ -1,0 +1,78 @@
+-- What is left is all words just where the whole is; the words so far and those that are left are all of them.
+-- Assumes nothing.
+use mathlib.Core.Path.{_≡_, refl, sym, ap, _∙_}
+use denote.Ref.{now}
+use native.Mathlib.Omega.{arith}
+use Rattle.fields.proofs.Places.{from-past}
+use Rattle.fields.specs.FieldsAt.{fieldsFrom}
+use Prim.Native.Nat.{_+_, _-_, _≤_}
+use lib.ListN.{length}
+use Rattle.units.specs.Count.{every}
+use Rattle.units.proofs.Choice.{yes-and, no-and}
+use Rattle.dialog.specs.Fields.{wordOk}
+use Rattle.dialog.proofs.FieldLaws.{every-cons, every-none}
+use borrow.Author.Tests.{not-true, not-false}
+use mathlib.Core.Bool.{false≢true}
+use Rattle.fields.proofs.hex.count_words.Statement.{statement}
+use Rattle.fields.proofs.hex.count_words.Tie as tie
+
+abbrev Inv-loop : tie.InvT-loop
+Inv-loop line at from₀ n₀ from n = (n + at ≤ from) × (every wordOk (fieldsFrom line at) ≡ every wordOk (fieldsFrom line from)) × (length (fieldsFrom line at) ≡ n + length (fieldsFrom line from))
+
+abbrev μ-loop : tie.MeasureT-loop
+μ-loop line at from₀ n₀ from n = length line + 1 - from
+
+loop-holds : tie.Need-loop-holds Inv-loop μ-loop
+loop-holds c = (omega arith, refl, omega arith)
+
+field-end-requires : tie.Need-field-end-requires Inv-loop μ-loop
+field-end-requires c κs = omega arith
+
+sub-is-word : tie.Need-sub-is-word Inv-loop μ-loop
+sub-is-word c = omega (arith, c .field-end .ensures .least)
+
+part-is-word-start : tie.Need-part-is-word-start Inv-loop μ-loop
+part-is-word-start c = c .field-end .ensures .least
+
+part-is-word-end : tie.Need-part-is-word-end Inv-loop μ-loop
+part-is-word-end c = c .field-end .ensures .most
+
+is-word-requires : tie.Need-is-word-requires Inv-loop μ-loop
+is-word-requires c κs = tt
+
+returns : tie.Need-returns Inv-loop μ-loop
+returns c = record { ok = sym (c .before .before .before .before .before .loop .inv .1 ∙ ap (every wordOk) (c .before .before .before .field-end .ensures .first) ∙ every-cons wordOk _ _ ∙ no-and _ (sym (c .before .is-word .ensures) ∙ not-true _ (c .if1 .taken))); count = λ t. absurd (false≢true t) }
+
+add-n : tie.Need-add-n Inv-loop μ-loop
+add-n c = omega (arith, c .before .before .before .field-end .ensures .most)
+
+add-from : tie.Need-add-from Inv-loop μ-loop
+add-from c = omega (arith, c .before .before .before .field-end .ensures .most)
+
+loop-less : tie.Need-loop-less Inv-loop μ-loop
+loop-less c = omega (arith, c .before .before .before .field-end .ensures .least)
+
+loop-again : tie.Need-loop-again Inv-loop μ-loop
+loop-again c = (omega (arith, c .before .before .before .field-end .ensures .least), c .before .before .before .before .before .loop .inv .1 ∙ ap (every wordOk) (c .before .before .before .field-end .ensures .first) ∙ every-cons wordOk _ _ ∙ yes-and (sym (c .before .is-word .ensures) ∙ not-false _ (c .if1 .left)), omega (arith, ap length (c .before .before .before .field-end .ensures .first), c .before .before .before .before .before .loop .inv .2))
+
+returns-2 : tie.Need-returns-2 Inv-loop μ-loop
+returns-2 c = let e = from-past (now (c .before .before .before .args .line)) (c .before .loop .from) (omega arith) in record { ok = sym (c .before .loop .inv .1 ∙ ap (every wordOk) e ∙ every-none wordOk); count = λ t. omega (arith, ap length e, c .before .loop .inv .2) }
+
+pub count-words-spec : {M : Type 1} → statement M
+count-words-spec =
+    tie.close
+    (tie.spec
+    Inv-loop
+    μ-loop
+    loop-holds
+    field-end-requires
+    sub-is-word
+    part-is-word-start
+    part-is-word-end
+    is-word-requires
+    returns
+    add-n
+    add-from
+    loop-less
+    loop-again
+    returns-2)

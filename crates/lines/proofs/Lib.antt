@@ -1,0 +1,4 @@
+-- Laws that belong to no one function.
+pub mod Found
+pub mod Whole
+pub mod Told
