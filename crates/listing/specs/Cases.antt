@@ -49,6 +49,7 @@ unfoldable pub nightCases : List Case
 nightCases =
     "the paper's example" says example lists "commands 2\n0008 AA05 0002 0313 0A0B 2403 1122 3300\nrefused 8\n"
     ∷ "Tag Not Found" says (count 0 ++ (count 1 ++ sent 3 (search 1))) lists "commands 1\n0007 FFFF 0001 0313 0A0B 2401 0700\n"
+    ∷ "the ID of a plaque record" says one (0x0006 ∷ 0xAA07 ∷ 0x0002 ∷ 0x07D0 ∷ 0 ∷ 0 ∷ []) lists "commands 1\n000A AA07 0002 0313 0A0B 2408 E004 0100 002E 16AD\n"
     ∷ "N-1 a command more than there are" says (count 1 ++ (plaque ++ (count 2 ++ readThree))) lists "commands 2\n0008 AA05 0002 0313 0A0B 2403 1122 3300\nbroken\n"
     ∷ "N-1 a plaque more than there are" says (count 2 ++ (plaque ++ count 0)) lists "broken\n"
     ∷ "N-1 half a command count" says (count 1 ++ (plaque ++ (0x00 ∷ []))) lists "broken\n"
