@@ -276,7 +276,8 @@ def call(g, line):
     return 'done'
 
 
-def console(text):
+def talk(text):
+    """The gateway after a conversation, and its lines out."""
     g, out = Gateway(), []
     lines = text.split(b'\n')
     if lines[-1] == b'':
@@ -292,7 +293,11 @@ def console(text):
             out.append('unreadable')
         except Refused as no:
             out.append('refused %d' % no.args[0])
-    return ''.join(line + '\n' for line in out).encode()
+    return g, out
+
+
+def console(text):
+    return ''.join(line + '\n' for line in talk(text)[1]).encode()
 
 
 def check_all(root):
@@ -308,6 +313,10 @@ def check_all(root):
     names = (night_crate / 'args').read_text().split()
     if b''.join(night((night_crate / 'data' / name).read_bytes()) for name in names) != (night_crate / 'stdout').read_bytes():
         print('the listings of the files in crates/night/args are not crates/night/stdout')
+        wrong += 1
+    talk_crate = root / 'crates' / 'console'
+    if console((talk_crate / 'stdin').read_bytes()) != (talk_crate / 'stdout').read_bytes():
+        print('the conversation in crates/console/stdin does not give crates/console/stdout')
         wrong += 1
     print('%d played, %d differ' % (done, wrong))
     return 1 if wrong or not done else 0

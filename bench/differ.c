@@ -24,9 +24,7 @@ struct options {
 };
 
 static struct buffer plain_out, ours_out;
-#ifdef OURS_CONSOLE
 static struct buffer struck_in, struck_out, kept_out;
-#endif
 
 /* Room for so many bytes; what was in the buffer is lost. */
 static void make_room(struct buffer *b, size_t room)
@@ -43,13 +41,11 @@ static void make_room(struct buffer *b, size_t room)
     }
 }
 
-#ifdef OURS_CONSOLE
 static void append(struct buffer *b, const uint8_t *bytes, size_t n)
 {
     memcpy(b->bytes + b->n, bytes, n);
     b->n += n;
 }
-#endif
 
 static void play(play_fn *side, const uint8_t *in, size_t n, struct buffer *out, size_t room)
 {
@@ -61,9 +57,7 @@ static void play(play_fn *side, const uint8_t *in, size_t n, struct buffer *out,
     }
 }
 
-#ifdef OURS_CONSOLE
 static size_t console_room(size_t n) { return 64 * n + 1024; }
-#endif
 
 static bool same(const struct buffer *a, const struct buffer *b)
 {
@@ -138,7 +132,6 @@ static uint64_t compare_files(const struct options *o)
     return differ;
 }
 
-#ifdef OURS_CONSOLE
 static uint64_t compare_talks(const struct options *o, struct talk *t)
 {
     uint64_t differ = 0;
@@ -210,7 +203,6 @@ static uint64_t compare_struck_out(const struct options *o, struct talk *t)
            (unsigned long long)differ);
     return differ;
 }
-#endif
 
 /* ---- */
 
@@ -260,12 +252,10 @@ int main(int argc, char **argv)
     }
     if (o.night)
         differ += compare_files(&o);
-#ifdef OURS_CONSOLE
     if (o.console) {
         differ += compare_talks(&o, &t);
         differ += compare_struck_out(&o, &t);
     }
-#endif
     free(t.text);
     free(t.whom);
     return differ == 0 ? 0 : 1;

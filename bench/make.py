@@ -1,6 +1,6 @@
 #!/usr/bin/env python3
 """Makes run files with their listings (crates/night/data, and what `night` writes for all of them in the gate), and conversations with
-the console's lines out (bench/data), all by bench/plain.
+the console's lines out (bench/data, and all of them as one in the gate: crates/console), all by bench/plain.
 
   make.py FOLDER     FOLDER has plain-night and plain-console (target/bench after bench/run)
 
@@ -11,8 +11,11 @@ import re
 import subprocess
 import sys
 
+import check
+
 ROOT = pathlib.Path(__file__).resolve().parent.parent
 NIGHT = ROOT / 'crates' / 'night'
+CONSOLE = ROOT / 'crates' / 'console'
 TALKS = ROOT / 'bench' / 'data'
 STAMP = '03130A0B24'
 
@@ -321,6 +324,33 @@ EXAMPLE_TALK = ['arrive 2 E0040100002E16AD 11223344',
                 'acknowledge 2 7', 'acknowledge 2 1', 'collect 2 register']
 
 
+def later(lines, number):
+    """A story that began with all handover numbers 1, told when they have moved on."""
+    for line in lines:
+        found = re.fullmatch(r'acknowledge (\d+) (\d{1,10})', line)
+        if found and int(found[1]) in number and 0 < int(found[2]) < 60000:
+            moved = int(found[2]) + number[int(found[1])] - 1
+            line = 'acknowledge %s %s' % (found[1], str(moved).zfill(len(found[2])))
+        yield line
+
+
+def cleared(text):
+    """The conversation so far, and then nothing is pending, no plaque is there, no reader reads, counts are 0."""
+    text += conversation('leave %d' % n for n in range(1, 17))
+    text += conversation(say(0x54, n) for n in range(1, 17))
+    text += conversation([say(0x60, 32), say(0x61, 32)])
+    return text + conversation(['acknowledge 32 %d' % check.talk(text)[0].number[32]])
+
+
+def all_talks():
+    """All conversations as one, for the gate."""
+    text = conversation(EXAMPLE_TALK)
+    for name, story in [('rooms', rooms), ('reader seven', seven), ('wraps', wraps), ('unreadable lines', unreadable)]:
+        text = cleared(text + conversation(['', '# ---- ' + name]))
+        text += conversation(later(story(), check.talk(text)[0].number))
+    return text + b'collect 2 register'
+
+
 def sample():
     text = (ROOT / 'docs' / 'NIGHT.md').read_text()
     return bytes.fromhex(''.join(re.sub('#.*', '', text[text.index('\n0003 '):].split('```')[0]).split()))
@@ -348,6 +378,8 @@ def make_talks(folder):
     for name, content in talks.items():
         (TALKS / (name + '.in')).write_bytes(content)
         (TALKS / (name + '.out')).write_bytes(played(folder, 'plain-console', content))
+    (CONSOLE / 'stdin').write_bytes(all_talks())
+    (CONSOLE / 'stdout').write_bytes(played(folder, 'plain-console', all_talks()))
 
 
 if __name__ == '__main__':

@@ -92,7 +92,6 @@ int main(void)
     same = race("night, the largest listing", plain_night, rashdumof_night, file, n, NIGHT_LISTING_MAX);
     n = generate_mixed_file(1, file);
     same &= race("night, 65,536 bytes mixed", plain_night, rashdumof_night, file, n, NIGHT_LISTING_MAX);
-#ifdef OURS_CONSOLE
     generate_long_talk(1, LINES, &t);
     if (t.lines != LINES) {
         fprintf(stderr, "speed: the conversation has %zu lines\n", t.lines);
@@ -100,7 +99,6 @@ int main(void)
     }
     same &= race("console, 100,000 lines mixed", plain_console, rashdumof_console, t.text, t.used,
                  64 * t.used + 1024);
-#endif
     free(t.text);
     free(t.whom);
     return same ? 0 : 1;

@@ -26,9 +26,12 @@ saidLine (answered (handed ws h)) = collectedLine h ws
 saidLine (refused k) = refusedLine k  -- "the paper's refusal"
 
 -- "unreadable: the line is no call; nothing has changed, and the gateway plays on"
+unfoldable pub unreadableLine : List ℕ
+unreadableLine = ascii "unreadable\n"
+
 unfoldable pub replyTo : Bench → Gateway → Spoken → Turn
 replyTo b g passed = record { line = []; after = g }
-replyTo b g unreadable = record { line = ascii "unreadable\n"; after = g }
+replyTo b g unreadable = record { line = unreadableLine; after = g }
 replyTo b g (call c) = record { line = saidLine ((step b g c) .said); after = (step b g c) .next }
 
 -- ---- the conversation

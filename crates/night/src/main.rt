@@ -2,8 +2,8 @@
 // cannot be read is said on standard error and has no listing.
 use libc::STDIN_FILENO;
 use libc::STDOUT_FILENO;
-use nightrun::lines::put_broken;
-use nightrun::lines::put_commands;
+use listingout::put_broken;
+use listingout::put_commands;
 use nightrun::walk::Walk;
 use nightrun::walk::open;
 use nightrun::walk::turn;

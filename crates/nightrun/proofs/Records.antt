@@ -1,11 +1,11 @@
--- The listing, one record further: a plaque, the count, a command, the end; and how long its lines are.
+-- The listing, one record further: a plaque, the count, a command, the end.
 -- Assumes nothing.
-use Prim.Native.Nat.{ℕ, zero, suc, _+_, _-_, _*_, _^_, _≤_, _<_}
+use Prim.Native.Nat.{ℕ, zero, suc, _+_, _-_, _*_, _≤_, _<_}
 use mathlib.Core.Path.{_≡_, refl, sym, ap, _∙_}
 use mathlib.Core.Bool.{true, false}
 use mathlib.Core.List.{List, [], _∷_, _++_}
 use native.Mathlib.Omega.{arith}
-use lib.ListN.{length, take, drop, length-append}
+use lib.ListN.{length, take, drop}
 use lib.Seq.{drop-drop}
 use borrow.Author.Tests.{eq-eqb, ne-eqb, le-leb, lt-leb}
 use Rattle.units.specs.Packing.{packed}
@@ -13,26 +13,9 @@ use Rattle.units.proofs.Choice.{yes-cond, no-cond}
 use Rattle.meaning.specs.Bench.{Bench}
 use Rattle.meaning.specs.Gateway.{Gateway}
 use Rattle.meaning.specs.Call.{arrive, step}
-use Rattle.text.specs.Text.{Put}
-use Rattle.text.proofs.Writing.{decimal-short}
 use Rattle.listing.specs.Records.{countWhole, countSaid, plaqueWhole, plaqueNode, plaqueLength, plaqueId, plaqueBytes, plaqueSize, commandWhole, commandStamp, commandLength, commandSize}
-use Rattle.listing.specs.Lines.{numberLine, commandsLine, refusedLine, brokenLine, flat}
+use Rattle.listing.specs.Lines.{commandsLine, brokenLine, flat}
 use Rattle.listing.specs.Listing.{turn, turned, arrived, commandLines, countedLines, plaqueLines, fileLines}
-
--- ---- lines
-number-short : (text : List ℕ) (n : ℕ) → n < 10 ^ 5 → length (numberLine text n) ≤ length text + 6
-unfolding numberLine
-number-short text n h = simp length-append (omega (arith, decimal-short 4 n h))
-
-pub commands-room : {old new : List ℕ} {at r : ℕ} (n : ℕ) → Put old at (commandsLine n) new r → n < 10 ^ 5 → r ≤ at + 15
-commands-room n p h = let s : length (commandsLine n) ≤ 15 = number-short _ n h in omega (arith, p .next, s)
-
-pub refused-short : (n : ℕ) → n < 10 ^ 5 → length (refusedLine n) ≤ 14
-refused-short n h = number-short _ n h
-
-pub length-broken : length brokenLine ≡ 7
-unfolding brokenLine
-length-broken = refl
 
 -- a line, then the others
 pub flat-more : {l : List ℕ} {ls ms : List (List ℕ)} → l ∷ ms ≡ ls → l ++ flat ms ≡ flat ls

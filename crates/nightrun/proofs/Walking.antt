@@ -28,16 +28,17 @@ use Rattle.text.proofs.Writing.{put-as, put-turn, put-done, length-words}
 use Rattle.listing.specs.Records.{countSaid, countWhole, commandStamp}
 use Rattle.listing.specs.Lines.{commandsLine, refusedLine, brokenLine, flat}
 use Rattle.listing.specs.Listing.{turn, turned, commandLines, plaqueLines, listing}
-use Rattle.nightrun.proofs.Records.{refused-short, length-broken, arrived-at, turned-at, count-on, command-on}
+use Rattle.listingout.proofs.Rooms.{refused-short, length-broken}
+use Rattle.nightrun.proofs.Records.{arrived-at, turned-at, count-on, command-on}
 use Rattle.runfile.proofs.Records.{PlaqueFacts, plaque-facts, CommandFacts, command-facts, count-there}
-use Rattle.nightrun.specs.Ask.{replyLine, Asks}
+use Rattle.asking.specs.Ask.{replyLine, Asks}
 use Rattle.nightrun.specs.Walk.{PlaqueHere, CommandHere, Arrives, toCome, firstOf, Turned, openLines, Stands, Lists}
 use Rattle.nightrun.specs.declared.Listed.{Listed}
-use Rattle.nightrun.specs.declared.ask.Asked.{Asked}
+use Rattle.asking.specs.declared.Asked.{Asked}
 use Rattle.nightrun.specs.declared.walk.Walk.{Walk}
 use Rattle.nightrun.specs.declared.walk.TurnTaken.{TurnTaken}
 use Rattle.nightrun.specs.declared.walk.Opened.{Opened}
-use Rattle.nightrun.proofs.Asking.{took, asks-as}
+use Rattle.asking.proofs.Asking.{took, asks-as}
 
 -- ---- records at a place
 module _ (file : List ℕ) (at : ℕ) where

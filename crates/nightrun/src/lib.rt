@@ -1,13 +1,12 @@
 // The night run: a run file played on a fresh gateway, and its listing written. `list` writes the whole listing; a program that has not
 // that much memory opens the file and takes turns, a line each (specs/Walk.antt, and law `all-lines` for the whole).
-pub mod ask;
-pub mod lines;
+pub mod reply;
 pub mod walk;
 
-use crate::lines::put_broken;
-use crate::lines::put_commands;
 use crate::walk::open;
 use crate::walk::turn;
+use listingout::put_broken;
+use listingout::put_commands;
 ghost use mathlib.Core.Path.{_≡_};
 ghost use Rattle.nightrun.specs.Walk.{Lists};
 

@@ -1,8 +1,8 @@
 // The walk over a run file: the plaques first, then a line for each command.
-use crate::ask::Asked;
-use crate::ask::ask;
-use crate::lines::put_broken;
-use crate::lines::put_reply;
+use crate::reply::put_reply;
+use asking::Asked;
+use asking::ask;
+use listingout::put_broken;
 use plaques::arrive;
 use runfile::CommandRecord;
 use runfile::CountRecord;
@@ -24,7 +24,7 @@ ghost use Rattle.state.specs.Machine.{machine, meaning};
 ghost use Rattle.state.specs.Consistent.{unfit};
 ghost use Rattle.listing.specs.Records.{commandStamp};
 ghost use Rattle.listing.specs.Listing.{turned};
-ghost use Rattle.nightrun.specs.Ask.{Asks};
+ghost use Rattle.asking.specs.Ask.{Asks};
 ghost use Rattle.nightrun.specs.Walk.{PlaqueHere, Arrives, CommandHere, Turned, Brings, Opens};
 
 // Where the walk over the commands is: how many are to come by the count, and whether the listing has ended.

@@ -8,8 +8,8 @@ use native.Mathlib.Omega.{arith}
 use native.Mathlib.Numerals.{add-one}
 use native.Mathlib.Decide.{ℕ-discrete}
 use native.Mathlib.Nat.{pow-succ'}
-use lib.ListN.{length, getD, drop, set, length-append, length-drop}
-use lib.Seq.{sets, length-sets, drop-cons}
+use lib.ListN.{length, getD, take, drop, set, length-append, length-take, length-drop}
+use lib.Seq.{sets, sets-eq, length-sets, drop-cons, slice, take-at, drop-at}
 use lib.Dec.{ltb, eqb}
 use borrow.Author.Tests.{lt-ltb, le-ltb, eq-eqb, ne-eqb}
 use Rattle.units.proofs.Choice.{yes-cond, no-cond}
@@ -45,6 +45,15 @@ put-then {o} {o₁} {o₂} {t} {u} p q = record {
 
 pub put-length : {o n t : List ℕ} {at r : ℕ} → Put o at t n r → length n ≡ length o
 put-length p = ap length (p .wrote) ∙ simp length-sets
+
+-- what was written stands there
+pub put-there : {old text new : List ℕ} {at r : ℕ} → Put old at text new r → at + length text ≤ length old → slice at r new ≡ text
+put-there {old} {text} {new} {at} {r} p h =
+    let front : length (take at old) ≡ at = simp length-take (omega (arith, h)) in
+    let t : take r new ≡ take at old ++ text =
+    ap (take r) (p .wrote ∙ sets-eq text old at h)
+    ∙ take-at (take at old ++ text) (drop (at + length text) old) r (simp length-append (omega (arith, front, p .next))) in
+    ap (drop at) t ∙ drop-at (take at old) text at front
 
 -- the same text by another name
 pub put-as : {o n t u : List ℕ} {at r : ℕ} → t ≡ u → Put o at t n r → Put o at u n r

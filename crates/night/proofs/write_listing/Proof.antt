@@ -2,8 +2,8 @@ use mathlib.Core.Path.{_≡_, refl, sym}
 use native.Mathlib.Omega.{arith}
 use lib.Seq.{length-take-le}
 use borrow.Author.Tests.{not-false}
-use Rattle.nightrun.proofs.Records.{commands-room, length-broken}
-use Rattle.nightrun.proofs.Whole.{blank-fit}
+use Rattle.listingout.proofs.Rooms.{commands-room, length-broken}
+use Rattle.blank.proofs.Blank.{blank-fit}
 use borrow.Author.Needs.{needs}
 use Rattle.night.proofs.write_listing.Statement.{statement}
 use Rattle.night.proofs.write_listing.Tie as tie

@@ -1,5 +1,5 @@
 use mathlib.Core.Path.{refl, sym, _∙_}
-use Rattle.nightrun.proofs.Records.{commands-room}
+use Rattle.listingout.proofs.Rooms.{commands-room}
 use borrow.Author.Needs.{needs}
 use native.Mathlib.Omega.{arith}
 use denote.Ref.{now}
@@ -10,7 +10,8 @@ use Rattle.promise.proofs.Parts.{parts}
 use Rattle.text.proofs.Writing.{put-then, put-as}
 use Rattle.nightrun.specs.Walk.{toCome}
 use Rattle.nightrun.proofs.Walking.{Along, along-turn, along-done, fuel, fuel-less, listed, not-listed}
-use Rattle.nightrun.proofs.Whole.{blank-fit, blank-means, listing-broken, listing-fine}
+use Rattle.blank.proofs.Blank.{blank-fit, blank-means}
+use Rattle.nightrun.proofs.Whole.{listing-broken, listing-fine}
 use Rattle.nightrun.proofs.list.Statement.{statement}
 use Rattle.nightrun.proofs.list.Tie as tie
 

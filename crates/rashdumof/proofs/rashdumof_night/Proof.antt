@@ -2,7 +2,7 @@
 -- Assumes nothing.
 use Prim.Native.Nat.{ℕ}
 use mathlib.Core.Path.{_≡_, refl, sym, ap, _∙_}
-use mathlib.Core.Bool.{Bool, true, false, cond}
+use mathlib.Core.Bool.{cond}
 use mathlib.Core.List.{List}
 use denote.Ref.{now}
 use lib.Dec.{leb}
@@ -11,6 +11,7 @@ use borrow.Author.Needs.{needs}
 use Rattle.listing.specs.Listing.{listing}
 use Rattle.nightrun.specs.Walk.{Lists}
 use Rattle.nightrun.specs.declared.Listed.{Listed}
+use Rattle.rashdumof.proofs.Numbers.{by-test}
 use Rattle.rashdumof.proofs.rashdumof_night.Statement.{statement}
 use Rattle.rashdumof.proofs.rashdumof_night.Tie as tie
 
@@ -21,11 +22,7 @@ number Listed.TooShort = 18446744073709551615
 number-is : (file old new : List ℕ) {r : Listed} → Lists file old new r
     → number r ≡ cond (leb 2600000 (length old)) (length (listing file)) 18446744073709551615
 unfolding number
-number-is file old new l = ap number (l .says) ∙ go (leb 2600000 (length old)) (length (listing file))
-  where
-    go : (t : Bool) (n : ℕ) → number (cond t (Listed.Written n) Listed.TooShort) ≡ cond t n 18446744073709551615
-    go true n = refl
-    go false n = refl
+number-is file old new l = ap number (l .says) ∙ by-test number Listed.Written Listed.TooShort (λ n. refl) (leb 2600000 (length old)) (length (listing file))
 
 list-requires : tie.Need-list-requires
 list-requires c κs = search needs

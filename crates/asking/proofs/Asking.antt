@@ -1,0 +1,195 @@
+-- A command's turn, by what was said of it; and an answer that waits on a consistent machine is handed over.
+-- Assumes nothing.
+use Prim.Native.Nat.{ℕ, _≤_, _<_}
+use mathlib.Core.Path.{_≡_, refl, sym, ap, _∙_, subst}
+use mathlib.Core.List.{List, [], _∷_}
+use native.Mathlib.Omega.{arith}
+use lib.Dec.{leb}
+use lib.ListN.{length, getD, take, drop}
+use lib.Seq.{take-at}
+use borrow.Author.Tests.{eq-eqb, ne-eqb, le-leb}
+use Rattle.units.proofs.Choice.{yes-cond, no-cond}
+use Rattle.units.specs.Word.{lsb}
+use Rattle.units.specs.declared.Words.{Words}
+use Rattle.units.specs.declared.stamp.Stamp.{Stamp}
+use Rattle.units.specs.declared.Form.the-variants.{Register}
+use Rattle.meaning.specs.Bench.{Bench}
+use Rattle.meaning.specs.Command.{bodyOf}
+use Rattle.meaning.specs.Response.{bears}
+use Rattle.meaning.specs.Gateway.{Gateway}
+use Rattle.meaning.specs.Call.{Call, command, collect, acknowledge, named, Result, handed, Said, refused, answered, queued, Outcome, step}
+use Rattle.demands.specs.Sound.{Sound}
+use Rattle.demands.proofs.Numbers.{refused-numbers}
+use Rattle.state.specs.State.{freshNode}
+use Rattle.state.specs.Machine.{Machine, machine, meaning, nodeSlot, answerAt}
+use Rattle.state.specs.Consistent.{unfit}
+use Rattle.state.specs.declared.State.{State}
+use Rattle.state.specs.declared.node.Node.{Node}
+use Rattle.state.proofs.Formed.{answer-length}
+use Rattle.promise.specs.Obeyed.{spoken, Does, expected, replied, written, Collects}
+use Rattle.promise.specs.declared.Reply.{Reply}
+use Rattle.promise.specs.declared.Handout.{Handout}
+use Rattle.promise.proofs.Promises.{saying, by-step}
+use Rattle.promise.proofs.Nodes.{pending-long}
+use Rattle.promise.proofs.Steps.{collect-0}
+use Rattle.promise.proofs.Oldest.{pending-is, list-wide, oldest-first, oldest-lies, shown-bare}
+use Rattle.promise.proofs.Chains.{Stepped, stepped}
+use Rattle.text.specs.Text.{wordsLine}
+use Rattle.listing.specs.Listing.{Turn, wordsIn, handoverIn, handedOver, heard, turn}
+use Rattle.asking.specs.Ask.{replyLine, Waiting, Asks}
+use Rattle.asking.specs.declared.Asked.{Asked}
+use Rattle.asking.proofs.Queued.{queues, waits}
+
+-- a call as promised on a consistent machine: refused or not, the machine after is consistent and means the gateway after
+pub took : {b : Bench} {c : Call} {m m′ : Machine} {said : Said} → unfit b m ≡ 0 → Does b (step b (meaning b m) c) m said m′ → Stepped b c m said m′
+took {b} {c} {m} {m′} {said} u d = stepped b c m said m′ u (by-step b m c u refl d)
+
+pub asks-as : {b : Bench} {o p : Turn} {r : Asked} {answer : List ℕ} {m : Machine} → p ≡ o → Asks b o r answer m → Asks b p r answer m
+asks-as {b} {o} {p} {r} {answer} {m} e a = subst (λ (o : Turn). Asks b o r answer m) (sym e) a
+
+-- ---- the answer that waits: w, at most 134 words, with the handover number
+module _ (b : Bench) (n : ℕ) (m : Machine) where
+  abbrev number : ℕ
+  number = meaning b m .nodes n .handover
+
+  pub record Hands (w : List ℕ) : Type 0 where
+    pub few : length w ≤ 134
+    pub first : (ws : List (List ℕ)) × (meaning b m .nodes n .pending ≡ w ∷ ws)
+    pub gives : step b (meaning b m) (collect Register n 134) ≡ saying (answered (handed w number)) (meaning b m)
+
+  pub hands : Waiting b n m → (w : List ℕ) × Hands w
+  unfolding bears
+  hands h =
+      let i : ℕ = nodeSlot b n in
+      let x : Node = getD (m .state .nodes) i freshNode in
+      let wide = list-wide b m (h .sound) n i (h .node) refl x refl in
+      let some : 0 < x .list .count =
+      omega (arith, h .some, ap length (pending-is b m (h .sound) n i (h .node) refl x refl), pending-long (m .store) (x .list) (omega (arith, wide))) in
+      let p : ℕ = getD (x .list .places) 0 0 in
+      let w : List ℕ = answerAt (m .store) p in
+      let first = oldest-first b m (h .sound) n i (h .node) refl x refl some in
+      let lies = oldest-lies b m (h .sound) n i (h .node) refl x refl some in
+      let few : length w ≤ 134 = omega (arith, answer-length (m .store) p (lies .inside), lies .most) in
+      let bare = shown-bare Register n w refl in (
+        w,
+        record {
+          few = few;
+          first = first;
+          gives = collect-0 b (meaning b m) Register n 134 (h .node) w (first .0) (first .1) (ap (λ (l : List ℕ). leb (length l) 134) bare ∙ le-leb (length w) 134 few)
+              ∙ ap (λ (l : List ℕ). saying (answered (handed l number)) (meaning b m)) bare;
+        },
+      )
+
+  -- the turn's line, and the acknowledgement after it
+  pub handed-over : {w : List ℕ} → Hands w → handedOver b n (meaning b m) ≡ record { line = wordsLine w; after = (step b (meaning b m) (acknowledge n number)) .next }
+  unfolding handedOver wordsIn handoverIn
+  handed-over h =
+      ap (λ (o : Outcome). record { line = wordsLine (wordsIn (o .said)); after = (step b (o .next) (acknowledge n (handoverIn (o .said)))) .next }) (h .gives)
+
+  -- what collecting it hands back and writes
+  pub record Gathered (r : Handout) (out : List ℕ) (w : List ℕ) : Type 0 where
+    pub hands : Hands w
+    pub reply : r ≡ Handout.Handed (record { 0 = length w }) number
+    pub output : take (length w) out ≡ w
+
+  pub gathered : {r : Handout} {out out′ : List ℕ} → Waiting b n m → length out ≡ 134 → Collects b (collect Register n (length out)) m r out out′ → (w : List ℕ) × Gathered r out′ w
+  unfolding expected replied written
+  gathered {r} {out} {out′} h l c =
+      let p = hands h in
+      let s : expected b (collect Register n (length out)) m .said ≡ answered (handed (p .0) number) =
+      ap (λ (o : Outcome). o .said) (yes-cond _ (eq-eqb _ _ (h .sound)) ∙ ap (λ (k : ℕ). step b (meaning b m) (collect Register n k)) l ∙ p .1 .gives) in (
+        p .0,
+        record {
+          hands = p .1;
+          reply = c .reply ∙ ap replied s;
+          output = ap (take (length (p .0))) (c .output ∙ ap (λ (z : Said). written z out) s) ∙ take-at (p .0) (drop (length (p .0)) out) (length (p .0)) refl;
+        },
+      )
+
+  -- so that it isn't refused
+  pub never-refused : {r : Handout} {out w : List ℕ} {k : ℕ} → Gathered r out w → r ≡ Handout.Refused k → ⊥
+  never-refused {r} {out} {w} {k} a e =
+      let z : Handout.Refused k ≡ Handout.Handed (record { 0 = length w }) number = sym e ∙ a .reply in
+      let y : _≡_ {A = ℕ} 0 1 = cc in omega arith
+
+  -- and it is the turn's line, when it has been acknowledged
+  pub asks-handed : {r : Handout} {out w : List ℕ} {words : Words} {h : ℕ} {said : Said} {s : State} {store memory : List ℕ}
+      → Waiting b n m → Gathered r out w → r ≡ Handout.Handed words h → Does b (step b (meaning b m) (acknowledge n h)) m said (machine s store memory)
+      → Asks b (handedOver b n (meaning b m)) (record { state = s; refusal = 0; words = words }) out (machine s store memory)
+  unfolding replyLine
+  asks-handed {r} {out} {w} {words} {h} {said} {s} {store} {memory} q a e d =
+      let z : Handout.Handed words h ≡ Handout.Handed (record { 0 = length w }) number = sym e ∙ a .reply in
+      let x : words .0 ≡ length w = cc in
+      let y : h ≡ number = cc in
+      let t = took (q .sound) d in
+      asks-as (handed-over (a .hands)) (record {
+        line = ap wordsLine (ap (λ (k : ℕ). take k out) x ∙ a .output);
+        after = t .means ∙ ap (λ (k : ℕ). (step b (meaning b m) (acknowledge n k)) .next) y;
+        sound = t .fit;
+        few = omega (arith, x, a .hands .few);
+        number = omega arith;
+      })
+
+-- ---- a command's turn
+module _ (b : Bench) (m m′ : Machine) (t : Stamp) (ws : List ℕ) (fits : unfit b m ≡ 0) (reply : Reply)
+    (d : Does b (step b (meaning b m) (command t Register ws)) m (spoken reply) m′) where
+  abbrev c : Call
+  c = command t Register ws
+
+  -- by what was said of it
+  said-is : (s : Said) → spoken reply ≡ s → (step b (meaning b m) c) .said ≡ s
+  said-is s e = sym (d .says) ∙ e
+
+  turn-said : (s : Said) → spoken reply ≡ s → turn b (meaning b m) t ws ≡ heard b (named c) (meaning b m′) s
+  unfolding turn
+  turn-said s e =
+      ap (heard b (named c) ((step b (meaning b m) c) .next)) (said-is s e)
+      ∙ ap (λ (g : Gateway). heard b (named c) g s) (sym (took fits d .means))
+
+  -- no answer was made
+  asks-none : (s : Said) → spoken reply ≡ s → (k : ℕ) → k ≤ 16 → replyLine k [] ≡ heard b (named c) (meaning b m′) s .line
+      → meaning b m′ ≡ heard b (named c) (meaning b m′) s .after → (answer : List ℕ) (r : Asked)
+      → r ≡ record { state = m′ .state; refusal = k; words = record { 0 = 0 } }
+      → Asks b (turn b (meaning b m) t ws) r answer (machine (r .state) (m′ .store) (m′ .memory))
+  asks-none s e k h l a answer r f =
+      subst (λ (r : Asked). Asks b (turn b (meaning b m) t ws) r answer (machine (r .state) (m′ .store) (m′ .memory))) (sym f)
+      (asks-as (turn-said s e) (record { line = l; after = a; sound = took fits d .fit; few = omega arith; number = h }))
+
+  -- a refusal, whose number is never 0
+  pub asks-refused : Sound b → (k : ℕ) → reply ≡ Reply.Refused k → (answer : List ℕ) (r : Asked)
+      → r ≡ record { state = m′ .state; refusal = k; words = record { 0 = 0 } }
+      → Asks b (turn b (meaning b m) t ws) r answer (machine (r .state) (m′ .store) (m′ .memory))
+  unfolding spoken heard replyLine
+  asks-refused ok k e =
+      let n = refused-numbers b ok (meaning b m) c k (said-is (refused k) (ap spoken e)) in
+      asks-none (refused k) (ap spoken e) k (n .1) (no-cond _ (ne-eqb k 0 (λ z. omega (arith, n)))) refl
+
+  pub asks-answered : (x : Result) → spoken reply ≡ answered x → (answer : List ℕ) (r : Asked)
+      → r ≡ record { state = m′ .state; refusal = 0; words = record { 0 = 0 } }
+      → Asks b (turn b (meaning b m) t ws) r answer (machine (r .state) (m′ .store) (m′ .memory))
+  unfolding heard replyLine wordsLine
+  asks-answered x e = asks-none (answered x) e 0 (omega arith) refl refl
+
+  -- an answer was queued: it waits at the node of word 03
+  names : named c ≡ lsb (getD ws 2 0)
+  unfolding named bodyOf
+  names = refl
+
+  module _ (e : reply ≡ Reply.Queued) (n : ℕ) (is : n ≡ lsb (getD ws 2 0)) where
+    queued-is : spoken reply ≡ queued
+    unfolding spoken
+    queued-is = ap spoken e
+
+    pub waiting : Waiting b n m′
+    waiting =
+        let q : (step b (meaning b m) c) .said ≡ queued = said-is queued queued-is in
+        let k = took fits d in
+        subst (λ (n : ℕ). Waiting b n m′) (names ∙ sym is) (record {
+          sound = k .fit;
+          node = queues b (meaning b m) c q .node;
+          some = subst (λ (g : Gateway). 1 ≤ length (g .nodes (named c) .pending)) (sym (k .means)) (waits b (meaning b m) c q);
+        })
+
+    pub asks-queued : {r : Asked} {answer : List ℕ} {m″ : Machine} → Asks b (handedOver b n (meaning b m′)) r answer m″ → Asks b (turn b (meaning b m) t ws) r answer m″
+    unfolding heard
+    asks-queued = asks-as (turn-said queued queued-is ∙ ap (λ (n : ℕ). handedOver b n (meaning b m′)) (names ∙ sym is))

@@ -1,0 +1,3 @@
+pub mod Queued
+pub mod Asking
+pub mod Answers

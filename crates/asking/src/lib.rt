@@ -1,0 +1,82 @@
+// A command of the night: played, its answer collected in register form and acknowledged.
+use handover::acknowledge;
+use handover::collect;
+use obey::obey;
+use promise::Handout;
+use promise::Reply;
+use state::State;
+use units::Form;
+use units::Words;
+use units::packing::lsb;
+use units::stamp::Stamp;
+ghost use mathlib.Core.Path.{_≡_};
+ghost use Prim.Native.Nat.{_≤_};
+ghost use lib.ListN.{length};
+ghost use Rattle.meaning.specs.Bench.{full};
+ghost use Rattle.meaning.specs.Packet.{wordNo};
+ghost use Rattle.units.specs.Word.{lsb};
+ghost use Rattle.state.specs.Machine.{machine, meaning};
+ghost use Rattle.state.specs.Consistent.{unfit};
+ghost use Rattle.listing.specs.Listing.{turn, handedOver};
+ghost use Rattle.asking.specs.Ask.{Asks, Waiting};
+
+// The state after a command, and the number of its refusal, or 0 and the count of its answer's words.
+pub struct Asked {
+    pub state: State,
+    pub refusal: u8,
+    pub words: Words,
+}
+
+fn refused(state: State, refusal: u8) -> Asked
+    ensures { λ r. ⌜ r ≡ record { state = state; refusal = refusal; words = record { 0 = 0 } } ⌝ }
+{
+    Asked {
+        state,
+        refusal,
+        words: Words(0),
+    }
+}
+
+// The answer that waits at a node: collected and acknowledged.
+fn hand_over(s: State, node: u8, store: &[u16], plaques: &[u8], answer: &mut [u16]) -> Asked
+    requires { ⌜ Waiting full node (machine s (now store) (now plaques)) ⌝ }
+    requires { ⌜ length (now answer) ≡ 134 ⌝ }
+    ensures { λ r. ⌜ Asks full (handedOver full node (meaning full (machine s (now (store .entry)) (now (plaques .entry))))) r (now (answer .exit)) (machine (r .state) (now (store .entry)) (now (plaques .entry))) ⌝ }
+{
+    match collect(s, Form::Register, node, store, plaques, answer) {
+        Handout::Refused(k) => refused(s, k),
+        Handout::Handed(words, number) => {
+            let called = acknowledge(s, node, number, store, plaques);
+            let next = called.state;
+            Asked {
+                state: next,
+                refusal: 0,
+                words,
+            }
+        }
+    }
+}
+
+pub fn ask(
+    s: State,
+    t: Stamp,
+    words: &[u16],
+    store: &mut [u16],
+    plaques: &mut [u8],
+    answer: &mut [u16],
+) -> Asked
+    requires { ⌜ unfit full (machine s (now store) (now plaques)) ≡ 0 ⌝ }
+    requires { ⌜ (3 ≤ length (now words)) × (length (now answer) ≡ 134) ⌝ }
+    ensures { λ r. ⌜ Asks full (turn full (meaning full (machine s (now (store .entry)) (now (plaques .entry)))) t (now (words .entry))) r (now (answer .exit)) (machine (r .state) (now (store .exit)) (now (plaques .exit))) ⌝ }
+{
+    let called = obey(s, t, Form::Register, words, store, plaques);
+    let u = called.state;
+    let reply = called.reply;
+    match reply {
+        Reply::Refused(k) => refused(u, k),
+        Reply::Queued => hand_over(u, lsb(words[2]), store, plaques, answer),
+        // No command is said to be done or quiet.
+        Reply::Done => refused(u, 0),
+        Reply::Quiet => refused(u, 0),
+    }
+}

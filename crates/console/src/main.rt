@@ -1,0 +1,89 @@
+// The bench console: a call a line on standard input, an answer a line on standard output, until the input ends.
+use gather::gather;
+use libc::STDIN_FILENO;
+use libc::STDOUT_FILENO;
+use state::State;
+use talk::talk;
+ghost use mathlib.Core.Path.{_≡_};
+ghost use Prim.Native.Nat.{_≤_};
+ghost use lib.ListN.{length};
+ghost use Rattle.meaning.specs.Bench.{full};
+ghost use Rattle.state.specs.Machine.{machine};
+ghost use Rattle.state.specs.Consistent.{unfit};
+
+// The state after a piece of the input, and how many bytes of a line that goes on are kept.
+struct Heard {
+    state: State,
+    kept: usize,
+}
+
+// Plays a line, and writes its answer before anything else is waited for.
+fn answer(s: State, line: &[u8], store: &mut [u16], plaques: &mut [u8]) -> State
+    requires { ⌜ unfit full (machine s (now store) (now plaques)) ≡ 0 ⌝ }
+    ensures { λ r. ⌜ unfit full (machine r (now (store .exit)) (now (plaques .exit))) ≡ 0 ⌝ }
+{
+    let mut out = [0u8; 691];
+    let p = talk(s, line, store, plaques, &mut out, 0);
+    let n = p.at;
+    io::write_all(STDOUT_FILENO, &out[..n]);
+    p.state
+}
+
+// Plays the lines that end in a piece, and keeps what it has of the next.
+fn hear(
+    s: State,
+    piece: &[u8],
+    line: &mut [u8],
+    kept: usize,
+    store: &mut [u16],
+    plaques: &mut [u8],
+) -> Heard
+    requires { ⌜ kept ≤ length (now line) ⌝ }
+    requires { ⌜ unfit full (machine s (now store) (now plaques)) ≡ 0 ⌝ }
+    ensures { λ r. ⌜ r .kept ≤ length (now (line .exit)) ⌝ }
+    ensures { λ r. ⌜ unfit full (machine (r .state) (now (store .exit)) (now (plaques .exit))) ≡ 0 ⌝ }
+{
+    let mut t = s;
+    let mut k = kept;
+    let mut at = 0;
+    while at < piece.len() {
+        let g = gather(piece, at, line, k);
+        at = g.at;
+        k = g.kept;
+        if g.whole {
+            t = answer(t, &line[..k], store, plaques);
+            k = 0;
+        }
+    }
+    Heard { state: t, kept: k }
+}
+
+// A line is kept up to a byte more than the longest that is looked into, which shows that it is longer.
+fn main() {
+    let mut store = [0u16; 4096];
+    let mut plaques = [0u8; 16384];
+    let mut line = [0u8; 4401];
+    let mut piece = io::buffer();
+    let mut s = state::fresh();
+    let mut kept = 0;
+    // It ends with the input. (So many pieces no bench will see; the count shows the prover that it ends.)
+    let mut pieces: u64 = 0;
+    while pieces < u64::MAX {
+        let got = libc::read(STDIN_FILENO, &mut piece);
+        if got < 0 {
+            os::fail(b"standard input");
+            break;
+        }
+        let n = io::count(got, &piece);
+        if n == 0 {
+            break;
+        }
+        let h = hear(s, &piece[..n], &mut line, kept, &mut store, &mut plaques);
+        s = h.state;
+        kept = h.kept;
+        pieces += 1;
+    }
+    if 0 < kept {
+        answer(s, &line[..kept], &mut store, &mut plaques);
+    }
+}

@@ -1,0 +1,257 @@
+-- Laws of lines: where one ends, what is left after it, and what is kept of one that comes in pieces.
+-- Assumes nothing.
+use Prim.Native.Nat.{ℕ, zero, suc, _+_, _-_, _≤_, _<_}
+use mathlib.Core.Path.{_≡_, refl, sym, ap, _∙_}
+use mathlib.Core.Bool.{Bool, true, false, true≢false}
+use mathlib.Core.List.{List, [], _∷_, _++_}
+use native.Mathlib.Omega.{arith}
+use native.Mathlib.Numerals.{add-one, unary-clauses}
+use native.Mathlib.Decide.{decLt, ℕ-discrete}
+use lib.ListN.{length, getD, take, drop, set, length-append, length-take, length-drop, length-set, drop-of-length-le}
+use lib.Seq.{sets, sets-eq, length-sets, take-all, take-at, take-nil, drop-drop}
+use borrow.Author.Tests.{eq-eqb, ne-eqb}
+use Rattle.units.proofs.Choice.{yes-cond, no-cond}
+use Rattle.dialog.specs.Fields.{before}
+use Rattle.dialog.specs.Spoken.{spoken}
+use Rattle.dialog.specs.Dialog.{linesOf}
+use Rattle.dialog.proofs.FieldLaws.{next}
+use Rattle.dialog.proofs.SpokenLaws.{too-long}
+use Rattle.gather.specs.Pieces.{lineIn, fed, Gathers}
+use Rattle.gather.specs.declared.Gathered.{Gathered}
+
+-- ---- a byte more
+line-feed : (c : ℕ) (cs : List ℕ) → c ≡ 10 → lineIn (c ∷ cs) ≡ []
+unfolding lineIn
+line-feed c cs e = yes-cond _ (eq-eqb c 10 e)
+
+line-more : (c : ℕ) (cs : List ℕ) → (c ≡ 10 → ⊥) → lineIn (c ∷ cs) ≡ c ∷ lineIn cs
+unfolding lineIn
+line-more c cs d = no-cond _ (ne-eqb c 10 d)
+
+fed-feed : (c : ℕ) (cs : List ℕ) → c ≡ 10 → fed (c ∷ cs) ≡ true
+unfolding fed
+fed-feed c cs e = yes-cond _ (eq-eqb c 10 e)
+
+fed-more : (c : ℕ) (cs : List ℕ) → (c ≡ 10 → ⊥) → fed (c ∷ cs) ≡ fed cs
+unfolding fed
+fed-more c cs d = no-cond _ (ne-eqb c 10 d)
+
+lines-feed : (c : ℕ) (cs : List ℕ) → c ≡ 10 → linesOf (c ∷ cs) ≡ [] ∷ linesOf cs
+unfolding linesOf
+lines-feed c cs e = yes-cond _ (eq-eqb c 10 e)
+
+lines-more : (c : ℕ) (cs : List ℕ) → (c ≡ 10 → ⊥) → linesOf (c ∷ cs) ≡ before c (linesOf cs)
+unfolding linesOf
+lines-more c cs d = no-cond _ (ne-eqb c 10 d)
+
+-- ---- a line is the first bytes, and what is not its end is all
+line-first : (bs : List ℕ) → lineIn bs ≡ take (length (lineIn bs)) bs
+unfolding lineIn
+line-first [] = refl
+line-first (c ∷ cs) = elim (ℕ-discrete c 10) [
+  | yes e ↦ rw (line-feed c cs e)
+  | no d ↦ rw (line-more c cs d) (ap (λ (x : List ℕ). c ∷ x) (line-first cs))
+]
+
+line-short : (bs : List ℕ) → length (lineIn bs) ≤ length bs
+line-short bs = let e = ap length (line-first bs) ∙ length-take (length (lineIn bs)) bs in omega arith
+
+-- without a line feed the line is all there is; with one it is less
+line-all : (bs : List ℕ) → fed bs ≡ false → lineIn bs ≡ bs
+unfolding lineIn fed
+line-all [] e = refl
+line-all (c ∷ cs) e = elim (ℕ-discrete c 10) [
+  | yes f ↦ absurd (true≢false (sym (fed-feed c cs f) ∙ e))
+  | no d ↦ line-more c cs d ∙ ap (λ (x : List ℕ). c ∷ x) (line-all cs (sym (fed-more c cs d) ∙ e))
+]
+
+line-less : (bs : List ℕ) → fed bs ≡ true → length (lineIn bs) < length bs
+unfolding lineIn fed
+line-less [] e = absurd (true≢false (sym e))
+line-less (c ∷ cs) e = elim (ℕ-discrete c 10) [
+  | yes f ↦ rw (line-feed c cs f) (omega arith)
+  | no d ↦ let h = line-less cs (sym (fed-more c cs d) ∙ e) in rw (line-more c cs d) (omega arith)
+]
+
+-- ---- the lines of what is left
+lines-none : linesOf [] ≡ []
+unfolding linesOf
+lines-none = refl
+
+lines-first : (bs : List ℕ) → 0 < length bs → linesOf bs ≡ lineIn bs ∷ linesOf (drop (suc (length (lineIn bs))) bs)
+unfolding linesOf lineIn before
+lines-first [] h = absurd (omega arith)
+lines-first (c ∷ []) h = elim (ℕ-discrete c 10) [
+  | yes e ↦ rw (line-feed c [] e, lines-feed c [] e)
+  | no d ↦ rw (line-more c [] d, lines-more c [] d)
+]
+lines-first (c ∷ b ∷ bs) h = elim (ℕ-discrete c 10) [
+  | yes e ↦ rw (line-feed c (b ∷ bs) e) (lines-feed c (b ∷ bs) e)
+  | no d ↦ lines-more c (b ∷ bs) d ∙ ap (before c) (lines-first (b ∷ bs) (omega arith)) ∙ rw (line-more c (b ∷ bs) d)
+]
+
+-- how many: one more at a line feed, and where there was none
+before-none : (c : ℕ) (ls : List (List ℕ)) → length ls ≡ 0 → length (before c ls) ≡ 1
+unfolding before
+before-none c [] e = refl
+before-none c (l ∷ ls) e = absurd (omega arith)
+
+before-some : (c : ℕ) (ls : List (List ℕ)) → 0 < length ls → length (before c ls) ≡ length ls
+unfolding before
+before-some c [] h = absurd (omega arith)
+before-some c (l ∷ ls) h = refl
+
+-- ---- at a place of the bytes
+module _ (bs : List ℕ) (at : ℕ) where
+  pub at-feed : at < length bs → getD bs at 0 ≡ 10 → lineIn (drop at bs) ≡ []
+  at-feed h e = ap lineIn (next bs at 0 h) ∙ line-feed _ _ e
+
+  pub at-other : at < length bs → (getD bs at 0 ≡ 10 → ⊥) → lineIn (drop at bs) ≡ getD bs at 0 ∷ lineIn (drop (at + 1) bs)
+  at-other h d = ap lineIn (next bs at 0 h) ∙ line-more _ _ d
+
+  pub at-end : length bs ≤ at → lineIn (drop at bs) ≡ []
+  unfolding lineIn
+  at-end h = ap lineIn (drop-of-length-le bs {i = at} h)
+
+  -- one line more is that at the place, and the others begin past its line feed
+  pub lines-on : at < length bs → linesOf (drop at bs) ≡ lineIn (drop at bs) ∷ linesOf (drop (at + length (lineIn (drop at bs)) + 1) bs)
+  lines-on h =
+      let n : at + suc (length (lineIn (drop at bs))) ≡ at + length (lineIn (drop at bs)) + 1 = omega arith in
+      lines-first (drop at bs) (omega (arith, length-drop at bs))
+      ∙ rw (drop-drop (suc (length (lineIn (drop at bs)))) at bs, n)
+
+  -- none is left past the end
+  pub lines-end : length bs ≤ at → linesOf (drop at bs) ≡ []
+  lines-end h = ap linesOf (drop-of-length-le bs {i = at} h) ∙ lines-none
+
+  -- a line is what stands from its place to its end, and that is no further than that of the bytes
+  pub line-part : (end : ℕ) → end ≡ at + length (lineIn (drop at bs)) → take (end - at) (drop at bs) ≡ lineIn (drop at bs)
+  line-part end e = let n : end - at ≡ length (lineIn (drop at bs)) = omega arith in rw n (sym (line-first (drop at bs)))
+
+  pub line-within : at ≤ length bs → at + length (lineIn (drop at bs)) ≤ length bs
+  line-within h = omega (arith, line-short (drop at bs), length-drop at bs)
+
+-- how many lines there are from a byte on, by how many from the next one on
+module _ (bs : List ℕ) (i n : ℕ) (h : 0 < i) (g : i ≤ length bs) (e : n ≡ length (linesOf (drop i bs))) where
+  count-back : length (linesOf (drop (i - 1) bs)) ≡ length (linesOf (getD bs (i - 1) 0 ∷ drop i bs))
+  count-back = let m : i - 1 + 1 ≡ i = omega arith in ap (λ (x : List ℕ). length (linesOf x)) (next bs (i - 1) 0 (omega arith)) ∙ rw m
+
+  pub count-feed : getD bs (i - 1) 0 ≡ 10 → n + 1 ≡ length (linesOf (drop (i - 1) bs))
+  count-feed f = omega (arith, e, count-back, ap length (lines-feed (getD bs (i - 1) 0) (drop i bs) f))
+
+  pub count-first : n ≡ 0 → n + 1 ≡ length (linesOf (drop (i - 1) bs))
+  count-first z = elim (ℕ-discrete (getD bs (i - 1) 0) 10) [
+    | yes f ↦ count-feed f
+    | no d ↦ omega (arith, count-back, ap length (lines-more (getD bs (i - 1) 0) (drop i bs) d) ∙ before-none _ _ (sym e ∙ z))
+  ]
+
+  pub count-same : (getD bs (i - 1) 0 ≡ 10 → ⊥) → (n ≡ 0 → ⊥) → n ≡ length (linesOf (drop (i - 1) bs))
+  count-same d z = e ∙ sym (count-back ∙ ap length (lines-more (getD bs (i - 1) 0) (drop i bs) d) ∙ before-some _ _ (omega arith))
+
+-- ---- a piece gathered
+module _ (piece : List ℕ) (at : ℕ) (line : List ℕ) (k : ℕ) where
+  -- nothing is left of the piece
+  pub none-left : length piece ≤ at → Gathers piece at line k (record { at = at; kept = k; whole = false }) line
+  unfolding fed
+  none-left h =
+      let e = at-end piece at h in record {
+        whole = sym (ap fed (drop-of-length-le piece {i = at} h));
+        at = omega (arith, ap length e);
+        kept′ = omega (arith, ap length e);
+        bytes = sym (rw e (ap (sets line k) (take-nil (length line - k))));
+      }
+
+  -- the line feed
+  pub feed-next : at < length piece → getD piece at 0 ≡ 10 → Gathers piece at line k (record { at = at + 1; kept = k; whole = true }) line
+  feed-next h f =
+      let e = at-feed piece at h f in record {
+        whole = sym (ap fed (next piece at 0 h) ∙ fed-feed _ _ f);
+        at = omega (arith, ap length e);
+        kept′ = omega (arith, ap length e);
+        bytes = sym (rw e (ap (sets line k) (take-nil (length line - k))));
+      }
+
+  module _ (r : Gathered) (line′ : List ℕ) (h : at < length piece) (d : getD piece at 0 ≡ 10 → ⊥) where
+    -- a byte with room for it
+    pub byte-kept : k < length line → Gathers piece (at + 1) (set line k (getD piece at 0)) (k + 1) r line′ → Gathers piece at line k r line′
+    byte-kept g q =
+        let e = at-other piece at h d in
+        let n : length line - k ≡ suc (length line - (k + 1)) = omega arith in record {
+          whole = q .whole ∙ sym (ap fed (next piece at 0 h) ∙ fed-more _ _ d);
+          at = omega (arith, ap length e, q .at);
+          kept′ = omega (arith, ap length e, q .kept′, length-set line k (getD piece at 0));
+          bytes = q .bytes ∙ rw (length-set line k (getD piece at 0), e, n, add-one k);
+        }
+
+    -- and without
+    pub byte-past : length line ≤ k → Gathers piece (at + 1) line k r line′ → Gathers piece at line k r line′
+    byte-past g q =
+        let e = at-other piece at h d in
+        let n : length line - k ≡ 0 = omega arith in record {
+          whole = q .whole ∙ sym (ap fed (next piece at 0 h) ∙ fed-more _ _ d);
+          at = omega (arith, ap length e, q .at);
+          kept′ = omega (arith, ap length e, q .kept′);
+          bytes = q .bytes ∙ rw n;
+        }
+
+-- ---- for callers: what a piece that was gathered says
+module _ {piece line line′ : List ℕ} {from kept : ℕ} {r : Gathered} where
+  at-whole : Gathers piece from line kept r line′ → r .whole ≡ true → r .at ≡ from + length (lineIn (drop from piece)) + 1
+  at-whole q e = q .at ∙ ap (λ (n : ℕ). from + length (lineIn (drop from piece)) + n) (yes-cond 0 e)
+
+  at-part : Gathers piece from line kept r line′ → r .whole ≡ false → r .at ≡ from + length (lineIn (drop from piece)) + 0
+  at-part q e = q .at ∙ ap (λ (n : ℕ). from + length (lineIn (drop from piece)) + n) (no-cond 1 e)
+
+  -- it has the length it had, and no more is kept than it has room for
+  pub same-room : Gathers piece from line kept r line′ → length line′ ≡ length line
+  same-room q = ap length (q .bytes) ∙ length-sets line kept (take (length line - kept) (lineIn (drop from piece)))
+
+  pub kept-within : Gathers piece from line kept r line′ → kept ≤ length line → r .kept ≤ length line
+  kept-within q h = omega (arith, q .kept′)
+
+  -- the place is further on, and no further than the piece
+  pub on-further : Gathers piece from line kept r line′ → from < length piece → from < r .at
+  on-further q h = by (r .whole) refl where
+    by : (w : Bool) → r .whole ≡ w → from < r .at
+    by true e = omega (arith, at-whole q e)
+    by false e = omega (arith, at-part q e, ap length (line-all (drop from piece) (sym (q .whole) ∙ e)), length-drop from piece)
+
+  pub on-within : Gathers piece from line kept r line′ → from ≤ length piece → r .at ≤ length piece
+  on-within q h = by (r .whole) refl where
+    by : (w : Bool) → r .whole ≡ w → r .at ≤ length piece
+    by true e = omega (arith, at-whole q e, line-less (drop from piece) (sym (q .whole) ∙ e), length-drop from piece)
+    by false e = omega (arith, at-part q e, line-within piece from h)
+
+-- the first bytes of a line are kept, as many as there is room for
+pub record Holds (line : List ℕ) (kept : ℕ) (sofar : List ℕ) : Type 0 where
+  pub first : take kept line ≡ take (length line) sofar
+  pub count : kept ≡ length (take (length line) sofar)
+
+pub holds-none : (line : List ℕ) → Holds line 0 []
+holds-none line = record { first = sym (take-nil (length line)); count = sym (ap length (take-nil {A = ℕ} (length line))) }
+
+-- so many bytes of two texts
+take-two : (n : ℕ) (xs ys : List ℕ) → take n (xs ++ ys) ≡ take n xs ++ take (n - length xs) ys
+take-two n [] ys = let z : n - 0 ≡ n = omega arith in rw (take-nil {A = ℕ} n, z)
+take-two zero (x ∷ xs) ys = let z : 0 - length (x ∷ xs) ≡ 0 = omega arith in rw z
+take-two (suc n) (x ∷ xs) ys = simp unary-clauses (ap (λ (l : List ℕ). x ∷ l) (take-two n xs ys))
+
+pub gathered-on : {piece line line′ sofar : List ℕ} {from kept : ℕ} {r : Gathered} → Gathers piece from line kept r line′ → Holds line kept sofar
+    → Holds line′ (r .kept) (sofar ++ lineIn (drop from piece))
+gathered-on {piece} {line} {line′} {sofar} {from} {kept} {r} q p =
+    let l = lineIn (drop from piece) in
+    let new = take (length line - kept) l in
+    let k = length-take (length line) sofar in
+    let t : r .kept ≡ kept + length new = omega (arith, q .kept′, length-take (length line - kept) l) in
+    let same : length line - length sofar ≡ length line - kept = omega (arith, p .count) in
+    let a : line′ ≡ take kept line ++ new ++ drop (kept + length new) line = q .bytes ∙ sets-eq new line kept (omega (arith, p .count, length-take (length line - kept) l)) in
+    let whole : take (length line′) (sofar ++ l) ≡ take kept line ++ new = rw (same-room q, take-two (length line) sofar l, same, p .first) in
+    let m : length (take kept line ++ new) ≡ r .kept = length-append (take kept line) new ∙ omega (arith, ap length (p .first), p .count) in
+    record { first = ap (take (r .kept)) a ∙ take-at (take kept line ++ new) _ (r .kept) m ∙ sym whole; count = sym (ap length whole ∙ m) }
+
+-- a line that is cut where it is too long anyway says what the whole says
+pub cut : (n : ℕ) (l : List ℕ) → 4401 ≤ n → spoken (take n l) ≡ spoken l
+cut n l h = elim (decLt n (length l)) [
+  | yes g ↦ too-long (take n l) (omega (arith, length-take n l)) ∙ sym (too-long l (omega arith))
+  | no g ↦ ap spoken (take-all n l (omega arith))
+]

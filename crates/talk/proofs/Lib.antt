@@ -1,0 +1,3 @@
+pub mod Talking
+pub mod Collecting
+pub mod Hearing

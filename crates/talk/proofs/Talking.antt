@@ -1,0 +1,99 @@
+-- A line played on a machine that is consistent: the machine after is consistent and means the gateway after the line, and what was
+-- written is the line's reply.
+-- Assumes nothing.
+use Prim.Native.Nat.{ℕ, _+_, _≤_}
+use mathlib.Core.Path.{_≡_, refl, sym, ap, _∙_, subst}
+use mathlib.Core.List.{List}
+use native.Mathlib.Omega.{arith}
+use borrow.Author.Tests.{eq-eqb}
+use Rattle.units.proofs.Choice.{yes-cond}
+use Rattle.meaning.specs.Bench.{Bench}
+use Rattle.meaning.specs.Call.{Call, Said, Outcome, step}
+use Rattle.state.specs.Machine.{Machine, machine, meaning}
+use Rattle.state.specs.Consistent.{unfit}
+use Rattle.state.specs.declared.State.{State}
+use Rattle.promise.specs.Obeyed.{Does, expected, Obeyed}
+use Rattle.promise.proofs.Promises.{by-step}
+use Rattle.promise.proofs.Chains.{stepped}
+use Rattle.text.specs.Text.{Put}
+use Rattle.text.proofs.Writing.{put-as}
+use Rattle.dialog.specs.Spoken.{Spoken, passed, unreadable, call, spoken}
+use Rattle.dialog.specs.Dialog.{unreadableLine, saidLine, replyTo}
+use Rattle.dialogout.proofs.Rooms.{length-unreadable}
+use Rattle.talk.specs.declared.Played.{Played}
+use Rattle.talk.specs.Talk.{answerTo, Follows, Plays}
+
+module _ (b : Bench) (m : Machine) (fits : unfit b m ≡ 0) where
+  -- what is expected of a call is the meaning's step
+  pub expects : (c : Call) → expected b c m ≡ step b (meaning b m) c
+  unfolding expected
+  expects c = yes-cond _ (eq-eqb (unfit b m) 0 fits)
+
+  -- by what a line says: what is answered, and the machine after
+  answer-is : (s : Spoken) → answerTo b m s ≡ replyTo b (meaning b m) s .line
+  unfolding answerTo replyTo
+  answer-is passed = refl
+  answer-is unreadable = refl
+  answer-is (call c) = ap (λ (o : Outcome). saidLine (o .said)) (expects c)
+
+  follows-fit : (s : Spoken) (m′ : Machine) → Follows b m s m′ → unfit b m′ ≡ 0
+  unfolding Follows
+  follows-fit passed m′ f = ap (unfit b) f ∙ fits
+  follows-fit unreadable m′ f = ap (unfit b) f ∙ fits
+  follows-fit (call c) m′ f = stepped b c m _ m′ fits f .fit
+
+  follows-means : (s : Spoken) (m′ : Machine) → Follows b m s m′ → meaning b m′ ≡ replyTo b (meaning b m) s .after
+  unfolding Follows replyTo
+  follows-means passed m′ f = ap (meaning b) f
+  follows-means unreadable m′ f = ap (meaning b) f
+  follows-means (call c) m′ f = stepped b c m _ m′ fits f .means
+
+  -- ---- for callers: a line played
+  module _ {line old : List ℕ} {to : ℕ} {new : List ℕ} {at : ℕ} {m′ : Machine} (p : Plays b m line old to new at m′) where
+    pub plays-fit : unfit b m′ ≡ 0
+    plays-fit = follows-fit (spoken line) m′ (p .follows)
+
+    pub plays-means : meaning b m′ ≡ replyTo b (meaning b m) (spoken line) .after
+    plays-means = follows-means (spoken line) m′ (p .follows)
+
+    pub plays-wrote : Put old to (replyTo b (meaning b m) (spoken line) .line) new at
+    plays-wrote = put-as (answer-is (spoken line)) (p .wrote)
+
+  -- ---- a line played, by what it says
+  module _ {line old : List ℕ} {to : ℕ} where
+    pub plays-passed : spoken line ≡ passed → Plays b m line old to old to m
+    unfolding answerTo Follows
+    plays-passed e = record {
+      wrote = put-as (sym (ap (answerTo b m) e)) (record { next = omega arith; wrote = refl });
+      follows = subst (λ (s : Spoken). Follows b m s m) (sym e) refl;
+      room = omega arith;
+    }
+
+    module _ {new : List ℕ} {at : ℕ} where
+      pub plays-unreadable : spoken line ≡ unreadable → Put old to unreadableLine new at → Plays b m line old to new at m
+      unfolding answerTo Follows
+      plays-unreadable e p = record {
+        wrote = put-as (sym (ap (answerTo b m) e)) p;
+        follows = subst (λ (s : Spoken). Follows b m s m) (sym e) refl;
+        room = omega (arith, p .next, length-unreadable);
+      }
+
+      -- a call, made as the meaning's step asks, and what was said of it written
+      pub plays-call : (c : Call) {said : Said} {m′ : Machine} → spoken line ≡ call c → Does b (step b (meaning b m) c) m said m′
+          → Put old to (saidLine said) new at → at ≤ to + 691 → Plays b m line old to new at m′
+      unfolding answerTo Follows
+      plays-call c {said} {m′} e d p h =
+          let s : said ≡ expected b c m .said = d .says ∙ sym (ap (λ (o : Outcome). o .said) (expects c)) in
+          record {
+            wrote = put-as (ap saidLine s ∙ sym (ap (answerTo b m) e)) p;
+            follows = subst (λ (s : Spoken). Follows b m s m′) (sym e) (subst (λ (s : Said). Obeyed b c m s m′) s (by-step b m c fits refl d));
+            room = h;
+          }
+
+    -- the same, as `told` hands it back
+    pub plays-told : (c : Call) {said : Said} {s : State} {store memory new : List ℕ} {r : Played} → spoken line ≡ call c
+        → Does b (step b (meaning b m) c) m said (machine s store memory)
+        → (r .state ≡ s) × (r .at ≤ to + 691) × Put old to (saidLine said) new (r .at)
+        → Plays b m line old to new (r .at) (machine (r .state) store memory)
+    plays-told c {said} {s} {store} {memory} e d (q, h, p) =
+        plays-call c e (subst (λ (s : State). Does b (step b (meaning b m) c) m said (machine s store memory)) (sym q) d) p h
