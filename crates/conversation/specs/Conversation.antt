@@ -14,10 +14,11 @@ use Rattle.dialog.specs.Dialog.{linesOf, conversation}
 use Rattle.talk.specs.Talk.{answerTo, Follows, Plays}
 use Rattle.conversation.specs.declared.Text.{Text}
 
--- text at the front of the output, which stays as it was past it; or, if it could be too short, all of it
+-- text at the front of the output, which has room for it and stays as it was past it; or, if it could be too short, all of it
 pub record Writes (room : ℕ) (text old new : List ℕ) (r : Text) : Type 0 where
   pub says : r ≡ cond (leb room (length old)) (Text.Written (length text)) Text.TooShort
   pub writes : new ≡ cond (leb room (length old)) (sets old 0 text) old
+  pub fits : leb room (length old) ≡ true → length text ≤ length old
 
 -- a line on any machine: its answer, and what follows from it; or, if the output could be too short, nothing
 pub record Answers (b : Bench) (m : Machine) (line old new : List ℕ) (r : Text) (m′ : Machine) : Type 0 where

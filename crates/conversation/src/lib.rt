@@ -96,12 +96,18 @@ pub fn converse(input: &[u8], out: &mut [u8]) -> Text
     let mut s = state::fresh();
     let mut at = 0;
     let mut to = 0;
-    while at < input.len() {
-        let end = line_end(input, at);
+    let mut end = line_end(input, 0);
+    while end < input.len() {
         let p = talk(s, &input[at..end], &mut store, &mut plaques, out, to);
         s = p.state;
         to = p.at;
         at = end + 1;
+        end = line_end(input, at);
+    }
+    // The last line may lack its line feed.
+    if at < input.len() {
+        let p = talk(s, &input[at..], &mut store, &mut plaques, out, to);
+        to = p.at;
     }
     Text::Written(to)
 }

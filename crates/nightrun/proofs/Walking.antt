@@ -24,7 +24,7 @@ use Rattle.state.specs.Consistent.{unfit}
 use Rattle.state.specs.declared.State.{State}
 use Rattle.promise.specs.Obeyed.{Does}
 use Rattle.text.specs.Text.{Put, wordsLine}
-use Rattle.text.proofs.Writing.{put-as, put-turn, put-done, length-words}
+use Rattle.text.proofs.Writing.{put-as, put-turn, put-done, put-length, length-words}
 use Rattle.listing.specs.Records.{countSaid, countWhole, commandStamp}
 use Rattle.listing.specs.Lines.{commandsLine, refusedLine, brokenLine, flat}
 use Rattle.listing.specs.Listing.{turn, turned, commandLines, plaqueLines, listing}
@@ -217,37 +217,55 @@ unfolding flat firstOf
 flat-on [] = refl
 flat-on (l ∷ ls) = refl
 
--- what holds before each: what is still to come makes the whole
-pub record Along (b : Bench) (file out₀ : List ℕ) (to₀ : ℕ) (ls : List (List ℕ)) (out : List ℕ) (to : ℕ) (w : Walk) (m : Machine) : Type 0 where
+-- what holds before each and after the last: what is still to come makes the whole text, and the place in the output is bounded by the place
+-- in the file
+pub record Along (b : Bench) (file out₀ : List ℕ) (to₀ : ℕ) (text out : List ℕ) (to : ℕ) (w : Walk) (m : Machine) : Type 0 where
   pub same : length out ≡ length out₀
-  pub rest : sets out to (flat (toCome b file w (meaning b m))) ≡ sets out₀ to₀ (flat ls)
-  pub place : to + length (flat (toCome b file w (meaning b m))) ≡ to₀ + length (flat ls)
+  pub rest : sets out to (flat (toCome b file w (meaning b m))) ≡ sets out₀ to₀ text
+  pub place : to + length (flat (toCome b file w (meaning b m))) ≡ to₀ + length text
   pub room : w .ended ≡ false → 17 * to ≤ 670 * w .at + 255
+  pub high : 17 * to ≤ 670 * length file + 11645
   pub inside : w .at ≤ length file
   pub sound : unfit b m ≡ 0
 
-module _ {b : Bench} {file out₀ : List ℕ} {to₀ : ℕ} {ls : List (List ℕ)} {out : List ℕ} {to : ℕ} {w : Walk} {m : Machine} (a : Along b file out₀ to₀ ls out to w m) where
-  pub along-turn : {new : List ℕ} {t : TurnTaken} {m′ : Machine} → w .ended ≡ false → Turned b file w (meaning b m) out to new t m′ → length new ≡ length out
-      → Along b file out₀ to₀ ls new (t .at) (t .walk) m′
-  along-turn {new} {t} {m′} go d l =
+module _ {b : Bench} {file out₀ : List ℕ} {to₀ : ℕ} {text out : List ℕ} {to : ℕ} {w : Walk} {m : Machine} (a : Along b file out₀ to₀ text out to w m) where
+  pub along-turn : {new : List ℕ} {t : TurnTaken} {m′ : Machine} → w .ended ≡ false → Turned b file w (meaning b m) out to new t m′
+      → Along b file out₀ to₀ text new (t .at) (t .walk) m′
+  along-turn {new} {t} {m′} go d =
       let ms : List (List ℕ) = toCome b file w (meaning b m) in
       let f : List ℕ = firstOf ms in
       let r : flat (toCome b file (t .walk) (meaning b m′)) ≡ flat (drop 1 ms) = ap flat (d .more) in
       let k : flat ms ≡ f ++ flat (toCome b file (t .walk) (meaning b m′)) = flat-on ms ∙ ap (λ (x : List ℕ). f ++ x) (sym r) in
       record {
-        same = l ∙ a .same;
+        same = put-length (d .line) ∙ a .same;
         rest = put-turn (flat ms) _ (d .line) k (a .rest);
         place = omega (arith, ap length k ∙ length-append f _, d .line .next, a .place);
         room = λ q. omega (arith, a .room go, d .room, d .on q);
+        high = omega (arith, a .room go, d .room, a .inside);
         inside = d .inside;
         sound = d .sound;
       }
 
-  pub along-done : w .ended ≡ true → Put out₀ to₀ (flat ls) out to
+  -- the same, told from here on
+  pub along-here : Along b file out to (flat (toCome b file w (meaning b m))) out to w m
+  along-here = record { same = refl; rest = refl; place = refl; room = a .room; high = a .high; inside = a .inside; sound = a .sound }
+
+  -- who writes what is still to come has written the whole text
+  pub along-whole : {new : List ℕ} {r : ℕ} → Put out to (flat (toCome b file w (meaning b m))) new r → Put out₀ to₀ text new r
+  along-whole p = record { next = p .next ∙ a .place; wrote = p .wrote ∙ a .rest }
+
+  pub along-done : w .ended ≡ true → Put out₀ to₀ text out to
   unfolding flat
   along-done e =
       let z : flat (toCome b file w (meaning b m)) ≡ [] = ap flat (gone b file w (meaning b m) e) in
       put-done _ (omega (arith, ap length z, a .place)) z (a .rest)
+
+  -- the room that a turn asks for
+  pub along-room : w .ended ≡ false → length file ≤ 65536 → 2600000 ≤ length out₀ → to + 670 ≤ length out
+  along-room go s l = omega (arith, a .room go, a .inside, a .same, s, l)
+
+  pub along-fits : length file ≤ 65536 → 2600000 ≤ length out₀ → to ≤ length out₀
+  along-fits s l = omega (arith, a .high, s, l)
 
 -- how much of the file is left to the walk
 unfoldable pub fuel : List ℕ → Walk → ℕ
@@ -265,14 +283,16 @@ fuel-less file w v g h on = go (v .ended) refl
     go false q = omega (arith, e, on q)
 
 -- ---- the whole
-pub listed : (file old new : List ℕ) (r : ℕ) → 2600000 ≤ length old → Put old 0 (listing file) new r → Lists file old new (Listed.Written r)
-listed file old new r h p = record {
+pub listed : (file old new : List ℕ) (r : ℕ) → 2600000 ≤ length old → Put old 0 (listing file) new r → r ≤ length old → Lists file old new (Listed.Written r)
+listed file old new r h p room = record {
   says = ap Listed.Written (p .next ∙ zero-add (length (listing file))) ∙ sym (yes-cond Listed.TooShort (le-leb 2600000 (length old) h));
   writes = p .wrote ∙ sym (yes-cond old (le-leb 2600000 (length old) h));
+  fits = λ q. omega (arith, p .next, room);
 }
 
 pub not-listed : (file old : List ℕ) → length old < 2600000 → Lists file old old Listed.TooShort
 not-listed file old h = record {
   says = sym (no-cond (Listed.Written (length (listing file))) (lt-leb 2600000 (length old) h));
   writes = sym (no-cond (sets old 0 (listing file)) (lt-leb 2600000 (length old) h));
+  fits = λ q. absurd (true≢false (sym q ∙ lt-leb 2600000 (length old) h));
 }

@@ -1,6 +1,6 @@
 -- The whole night: from a blank gateway the lines of a file that was opened and of its turns, joined, are the listing.
 -- Assumes nothing.
-use Prim.Native.Nat.{ℕ, _+_, _≤_}
+use Prim.Native.Nat.{ℕ, _+_, _^_, _≤_, _<_}
 use mathlib.Core.Path.{_≡_, refl, sym, ap, _∙_}
 use mathlib.Core.Bool.{Bool, true, false, cond}
 use mathlib.Core.List.{List, [], _∷_, _++_, map, append-nil}
@@ -10,13 +10,16 @@ use lib.Seq.{sets-eq, slice, take-at, drop-at}
 use Rattle.meaning.specs.Bench.{Bench, full}
 use Rattle.meaning.specs.Gateway.{Gateway}
 use Rattle.state.specs.Machine.{Machine, meaning}
-use Rattle.text.proofs.Writing.{put-there}
+use Rattle.text.specs.Text.{Put}
+use Rattle.text.proofs.Writing.{put-turn, put-length, put-there}
 use Rattle.listing.specs.Lines.{commandsLine, brokenLine, flat}
 use Rattle.listing.specs.Listing.{fileLines, blank, listing}
-use Rattle.nightrun.specs.Walk.{toCome, firstOf, Opens, Made, Turns, textOf, nightText}
+use Rattle.listingout.proofs.Rooms.{commands-room}
+use Rattle.nightrun.specs.Walk.{toCome, firstOf, Turned, Opens, Made, Turns, textOf, nightText}
 use Rattle.nightrun.specs.declared.walk.Walk.{Walk}
+use Rattle.nightrun.specs.declared.walk.TurnTaken.{TurnTaken}
 use Rattle.nightrun.specs.declared.walk.Opened.{Opened}
-use Rattle.nightrun.proofs.Walking.{gone, opened-broken, opened-fine, flat-on}
+use Rattle.nightrun.proofs.Walking.{Along, along-turn, gone, opened-broken, opened-fine, flat-on}
 
 -- ---- the listing of a file that was opened
 module _ {file : List ℕ} {g : Gateway} {o : Opened} {m : Machine} (from : g ≡ blank full) (opens : Opens full file g o m) where
@@ -31,6 +34,28 @@ module _ {file : List ℕ} {g : Gateway} {o : Opened} {m : Machine} (from : g �
   pub listing-fine : o .fine ≡ true → commandsLine (o .walk .left) ++ flat (toCome full file (o .walk) (meaning full m)) ≡ listing file
   unfolding flat
   listing-fine e = listing-is (commandsLine (o .walk .left) ∷ toCome full file (o .walk) (meaning full m)) (opened-fine opens e)
+
+  -- the walk from the line of the command count on
+  module _ (fine : o .fine ≡ true) {old out : List ℕ} {to : ℕ} (few : o .walk .left < 10 ^ 5) (head : Put old 0 (commandsLine (o .walk .left)) out to) where
+    pub along-opened : Along full file old 0 (listing file) out to (o .walk) m
+    along-opened =
+        let l : List ℕ = commandsLine (o .walk .left) in
+        let k : l ++ flat (toCome full file (o .walk) (meaning full m)) ≡ listing file = listing-fine fine in
+        let low = commands-room (o .walk .left) head few in
+        record {
+          same = put-length head;
+          rest = put-turn (listing file) _ head (sym k) refl;
+          place = omega (arith, head .next, sym (length-append l _) ∙ ap length k);
+          room = λ q. omega (arith, low);
+          high = omega (arith, low);
+          inside = opens .inside fine;
+          sound = opens .sound;
+        }
+
+    -- and after the first turn
+    pub along-first : {new : List ℕ} {t : TurnTaken} {m′ : Machine} → Turned full file (o .walk) (meaning full m) out to new t m′
+        → Along full file old 0 (listing file) new (t .at) (t .walk) m′
+    along-first d = along-turn along-opened (opens .going fine) d
 
 -- ---- the turns
 turns-lines : (b : Bench) (file : List ℕ) (w : Walk) (m : Machine) (ts : List Made) → Turns b file w m ts

@@ -96,7 +96,9 @@ textOf t = slice (t .to) (t .taken .at) (t .new)
 unfoldable pub nightText : Opened → List Made → List ℕ
 nightText o ts = cond (o .fine) (commandsLine (o .walk .left) ++ flat (map textOf ts)) brokenLine
 
--- ---- the whole: the listing's bytes at the front of the output, which stays as it was past them; or, if it could be too short, all of it
+-- ---- the whole: the listing's bytes at the front of the output, which has room for all of them and stays as it was past them; or, if it
+-- could be too short, all of it
 pub record Lists (file old new : List ℕ) (r : Listed) : Type 0 where
   pub says : r ≡ cond (leb 2600000 (length old)) (Listed.Written (length (listing file))) Listed.TooShort
   pub writes : new ≡ cond (leb 2600000 (length old)) (sets old 0 (listing file)) old
+  pub fits : leb 2600000 (length old) ≡ true → length (listing file) ≤ length old

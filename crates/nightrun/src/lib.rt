@@ -32,14 +32,16 @@ pub fn list(file: &[u8], out: &mut [u8]) -> Listed
     if !o.fine {
         return Listed::Written(put_broken(out, 0));
     }
-    let mut w = o.walk;
-    let mut s = o.state;
-    let mut to = put_commands(out, 0, w.left);
+    let begun = o.walk;
+    let first = o.state;
+    let to = put_commands(out, 0, begun.left);
+    // The first turn stands before the loop: called in two places, `turn` is not opened into the loop, which is faster.
+    let mut t = turn(file, begun, first, &mut store, &mut plaques, out, to);
+    let mut w = t.walk;
     while !w.ended {
-        let t = turn(file, w, s, &mut store, &mut plaques, out, to);
+        let s = t.state;
+        t = turn(file, w, s, &mut store, &mut plaques, out, t.at);
         w = t.walk;
-        s = t.state;
-        to = t.at;
     }
-    Listed::Written(to)
+    Listed::Written(t.at)
 }
