@@ -16,7 +16,7 @@ use Rattle.state.specs.Consistent.{unfit}
 use Rattle.state.specs.declared.reader.Reader.{Reader}
 use Rattle.state.specs.declared.node.Node.{Node}
 use Rattle.state.proofs.Lists.{getD-any}
-use Rattle.store.proofs.Laid.{blank}
+use Rattle.state.proofs.InOrder.{blank}
 use Rattle.promise.proofs.Parts.{parts}
 use Rattle.promise.proofs.Tables.{reader-range, reader-node, node-at}
 

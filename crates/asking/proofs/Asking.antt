@@ -26,13 +26,13 @@ use Rattle.state.specs.Consistent.{unfit}
 use Rattle.state.specs.declared.State.{State}
 use Rattle.state.specs.declared.node.Node.{Node}
 use Rattle.state.proofs.Formed.{answer-length}
+use Rattle.state.proofs.Starts.{pending-long}
 use Rattle.promise.specs.Obeyed.{spoken, Does, expected, replied, written, Collects}
 use Rattle.promise.specs.declared.Reply.{Reply}
 use Rattle.promise.specs.declared.Handout.{Handout}
 use Rattle.promise.proofs.Promises.{saying, by-step}
-use Rattle.promise.proofs.Nodes.{pending-long}
 use Rattle.promise.proofs.Steps.{collect-0}
-use Rattle.promise.proofs.Oldest.{pending-is, list-wide, oldest-first, oldest-lies, shown-bare}
+use Rattle.promise.proofs.Oldest.{pending-is, oldest-first, oldest-lies, shown-bare}
 use Rattle.promise.proofs.Chains.{Stepped, stepped}
 use Rattle.text.specs.Text.{wordsLine}
 use Rattle.listing.specs.Listing.{Turn, wordsIn, handoverIn, handedOver, heard, turn}
@@ -62,10 +62,9 @@ module _ (b : Bench) (n : ℕ) (m : Machine) where
   hands h =
       let i : ℕ = nodeSlot b n in
       let x : Node = getD (m .state .nodes) i freshNode in
-      let wide = list-wide b m (h .sound) n i (h .node) refl x refl in
       let some : 0 < x .list .count =
-      omega (arith, h .some, ap length (pending-is b m (h .sound) n i (h .node) refl x refl), pending-long (m .store) (x .list) (omega (arith, wide))) in
-      let p : ℕ = getD (x .list .places) 0 0 in
+      omega (arith, h .some, ap length (pending-is b m (h .sound) n i (h .node) refl x refl), pending-long (m .store) (x .list)) in
+      let p : ℕ = x .list .place in
       let w : List ℕ = answerAt (m .store) p in
       let first = oldest-first b m (h .sound) n i (h .node) refl x refl some in
       let lies = oldest-lies b m (h .sound) n i (h .node) refl x refl some in

@@ -29,7 +29,7 @@ use Rattle.demands.specs.Counts.{isSweep}
 use Rattle.demands.proofs.Room.{swept-empty}
 use Rattle.state.specs.State.{freshNode, emptiedNode, resetNode}
 use Rattle.state.specs.Machine.{Machine, machine, meaning, nodeOf}
-use Rattle.state.specs.Consistent.{few, heldsOf, chargesOf, zeros, nameOk, unfit}
+use Rattle.state.specs.Consistent.{heldsOf, chargesOf, zeros, nameOk, unfit}
 use Rattle.state.specs.declared.node.Node.{Node}
 use Rattle.state.specs.declared.Name.{Name}
 use Rattle.state.specs.declared.State.{State}
@@ -37,7 +37,6 @@ use Rattle.state.proofs.Lists.{getD-any}
 use Rattle.lists.specs.Room.{roomFor}
 use Rattle.store.specs.Layout.{withNodes}
 use Rattle.store.proofs.Every.{both}
-use Rattle.store.proofs.Order.{lists-few}
 use Rattle.store.proofs.Rooms.{helds-mean}
 use Rattle.store.proofs.Swept.{emptied-means, reset-means}
 use Rattle.promise.specs.Obeyed.{spoken, Does}
@@ -221,9 +220,6 @@ module _ (m : Machine) (fit : unfit full m ≡ 0) (t : Stamp) (good : isStamp t 
         subst (λ (r : Called). Governs k r store′) (sym (is ∙ ap (λ (b : Bool). settledAs b s′) e))
         (swept-queued full full-sound m fit _ _ _ same formed ok store′ s′ z due s₁ clean q e)
 
-  few-lists : few (m .state .nodes) ≡ true
-  few-lists = lists-few full (m .store) (m .state .nodes) (parts full m fit .lists)
-
   -- 61
   module _ (s₁ : State) (e : s₁ ≡ withNodes (m .state) (map resetNode (m .state .nodes))) where
     pub reset-fit : unfit full (machine s₁ (m .store) (m .memory)) ≡ 0
@@ -234,7 +230,7 @@ module _ (m : Machine) (fit : unfit full m ≡ 0) (t : Stamp) (good : isStamp t 
     unfolding ruled swept isSweep
     told-reset a ae ok store′ s′ q r is =
         told-swept ResetGateway resetting refl 0x61 (lit< tt) refl 0 refl (withNodes (m .state) (map resetNode (m .state .nodes))) (restarted full m fit)
-        (reset-means (m .store) (m .state .nodes) few-lists) a ae ok store′ s′
+        (reset-means (m .store) (m .state .nodes)) a ae ok store′ s′
         (subst (λ (u : State). Queued full ok (m .store) store′ u s′ 16 (responseBody a [])) e q) r is
 
   -- 79
@@ -248,5 +244,5 @@ module _ (m : Machine) (fit : unfit full m ≡ 0) (t : Stamp) (good : isStamp t 
     told-clear d a ae ok store′ s′ q r is =
         told-swept Clear clearing refl 0x79 (lit< tt) refl _ (kept-count (meaning full m .nodes hub) ∙ own-count d)
         (withNodes (m .state) (map emptiedNode (m .state .nodes))) (cleared full m fit)
-        (emptied-means (m .store) (m .state .nodes) few-lists) a ae ok store′ s′
+        (emptied-means (m .store) (m .state .nodes)) a ae ok store′ s′
         (subst (λ (u : State). Queued full ok (m .store) store′ u s′ 16 (responseBody a [])) e q) r is

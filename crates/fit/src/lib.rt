@@ -149,7 +149,8 @@ pub fn unfit(s: State, store: &[u16], plaques: &[u8]) -> u8
     if plaques.len() != 16384 {
         return 1;
     }
-    if !lists_ok(s, store) {
+    let nodes = s.nodes;
+    if !lists_ok(nodes, store) {
         return 2;
     }
     if !nodes_ok(s) {

@@ -6,29 +6,19 @@ use promise::Handout;
 use promise::Reply;
 use responseout::bears;
 use state::State;
-use state::node::Node;
 use store::copy_in;
 use units::Form;
 use units::Words;
 use units::packing::word;
 ghost use mathlib.Core.Path.{_≡_};
-ghost use Prim.Native.Nat.{_+_, _≤_, _<_};
+ghost use Prim.Native.Nat.{_+_, _≤_};
 ghost use lib.ListN.{length, getD};
 ghost use Rattle.meaning.specs.Bench.{full};
 ghost use Rattle.meaning.specs.Call.{collect, acknowledge, step};
-ghost use Rattle.state.specs.State.{freshNode};
 ghost use Rattle.state.specs.Machine.{machine, meaning, answerAt};
 ghost use Rattle.state.specs.Consistent.{unfit};
 ghost use Rattle.store.specs.Layout.{putIn};
 ghost use Rattle.promise.specs.Obeyed.{Makes, Collects};
-
-// The node at an index. (A call's result is known to have all its places; an element of an array is not.)
-fn node_of(s: State, i: usize) -> Node
-    requires { ⌜ i < 17 ⌝ }
-    ensures { λ r. ⌜ r ≡ getD (s .nodes) i freshNode ⌝ }
-{
-    s.nodes[i]
-}
 
 pub fn acknowledge(s: State, node: u8, number: u16, store: &[u16], plaques: &[u8]) -> Called
     requires { ⌜ unfit full (machine s (now store) (now plaques)) ≡ 0 ⌝ }
@@ -38,7 +28,7 @@ pub fn acknowledge(s: State, node: u8, number: u16, store: &[u16], plaques: &[u8
     if 17 <= i {
         return refused(s, 7);
     }
-    let n = node_of(s, i);
+    let n = s.nodes[i];
     let list = n.list;
     if list.count == 0 {
         return refused(s, 14);
@@ -46,8 +36,9 @@ pub fn acknowledge(s: State, node: u8, number: u16, store: &[u16], plaques: &[u8
     if number != n.handover {
         return refused(s, 15);
     }
+    let place = list.place;
+    let m = n.taken(Words(store[place] as usize));
     let mut t = s;
-    let m = n.taken();
     t.nodes[i] = m;
     Called {
         reply: Reply::Done,
@@ -80,12 +71,12 @@ pub fn collect(
     if 17 <= i {
         return Handout::Refused(7);
     }
-    let n = node_of(s, i);
+    let n = s.nodes[i];
     let list = n.list;
     if list.count == 0 {
         return Handout::Refused(14);
     }
-    let place = list.places[0] as usize;
+    let place = list.place;
     let words = store[place] as usize;
     if bears(form, node) {
         if out.len() < words + 1 {

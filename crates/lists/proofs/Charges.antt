@@ -1,25 +1,25 @@
 -- Held words, charges and room, for any number of nodes and any bench.
 -- Assumes nothing.
-use Prim.Native.Nat.{ℕ, zero, suc, _+_, _*_, _≤_, _<_, max}
+use Prim.Native.Nat.{ℕ, zero, suc, _+_, _≤_, _<_, max}
 use mathlib.Core.Path.{_≡_}
-use mathlib.Core.Bool.{true, false}
+use mathlib.Core.Bool.{Bool, true, false}
 use mathlib.Core.List.{List, [], _∷_}
-use native.Mathlib.Nat.{mul-le-mul-left}
 use native.Mathlib.Omega.{arith}
 use lib.Dec.{leb}
-use lib.ListN.{length, take, getD, set, length-take, length-map, List·getD-map}
-use borrow.Author.Tests.{le-leb, lt-leb}
+use lib.ListN.{length, take, getD, set, length-map, List·getD-map}
+use borrow.Author.Tests.{le-leb, lt-leb, leb-true}
+use Rattle.units.specs.Count.{every}
 use Rattle.units.specs.declared.Words.{Words}
-use Rattle.units.proofs.Choice.{yes-and, no-and}
+use Rattle.units.proofs.Choice.{yes-and, no-and, and-true}
 use Rattle.meaning.specs.Bench.{Bench}
 use Rattle.meaning.specs.Room.{added}
-use Rattle.state.specs.Consistent.{chargesOf, heldsOf, few, most}
-use Rattle.state.specs.Machine.{pendingOf, placesOf}
+use Rattle.state.specs.Consistent.{chargesOf, heldsOf, bounded}
+use Rattle.state.specs.Machine.{startsOf, pendingOf}
 use Rattle.state.specs.State.{freshNode}
 use Rattle.state.specs.declared.node.Node.{Node}
-use Rattle.state.proofs.Formed.{added-most}
-use Rattle.state.proofs.InOrder.{listAt, few-at}
-use Rattle.lists.specs.Room.{counts, roomFor}
+use Rattle.state.proofs.InOrder.{listAt}
+use Rattle.state.proofs.Lists.{every-get}
+use Rattle.lists.specs.Room.{counts, wordsOf, roomFor}
 
 pub count-at : (ws : List Words) (i : ℕ) → getD (counts ws) i 0 ≡ (getD ws i (record { 0 = 0 })) .0
 count-at ws i = List·getD-map (λ w. w .0) ws i (record { 0 = 0 })
@@ -34,22 +34,28 @@ charges-more share (x ∷ l) (suc i) h =
     let r : chargesOf share (take (suc i) l) ≡ chargesOf share (take i l) + max share (getD l i 0) = charges-more share l i (omega arith) in
     omega arith
 
--- ---- held words
-pub length-helds : (store : List ℕ) (ns : List Node) → length (heldsOf store ns) ≡ length ns
-unfolding heldsOf
-length-helds store ns = simp length-map
+-- ---- held words, as the nodes count them
+pub length-words : (ns : List Node) → length (wordsOf ns) ≡ length ns
+length-words ns = simp length-map
 
+pub words-at : (ns : List Node) (i : ℕ) → getD (wordsOf ns) i 0 ≡ listAt ns i .words .0
+words-at ns i = List·getD-map (λ n. n .list .words .0) ns i freshNode
+
+-- .. and as the store has them
 pub held-at : (store : List ℕ) (ns : List Node) (i : ℕ) → getD (heldsOf store ns) i 0 ≡ added (pendingOf store (listAt ns i))
-unfolding heldsOf added pendingOf
+unfolding heldsOf added pendingOf startsOf
 held-at store ns i = List·getD-map (λ n. added (pendingOf store (n .list))) ns i freshNode
 
-pub held-most : (store : List ℕ) (c : ℕ) → ((p : ℕ) → getD store p 0 ≤ c) → (ns : List Node) → few ns ≡ true → (i : ℕ) → i < length ns
-    → getD (heldsOf store ns) i 0 ≤ c * most
-unfolding pendingOf
-held-most store c h ns f i l =
-    let n : length (placesOf (listAt ns i)) ≤ most = simp length-take (omega (arith, few-at ns f i l .0)) in
-    let m : c * length (placesOf (listAt ns i)) ≤ c * most = mul-le-mul-left c n in
-    rw held-at (omega (arith, added-most store c h (placesOf (listAt ns i))))
+-- no count passes a limit
+abbrev pub limited : ℕ → List ℕ → Bool
+limited c = every (λ h. leb h c)
+
+pub limit-at : (c : ℕ) (hs : List ℕ) → limited c hs ≡ true → (i : ℕ) → i < length hs → getD hs i 0 ≤ c
+limit-at c hs h i l = leb-true _ _ (every-get (λ x. leb x c) hs i 0 h l)
+
+pub bounded-at : (b : Bench) (hs : List ℕ) → bounded b hs ≡ true → (i : ℕ) → i < length hs → getD hs i 0 ≤ b .limit
+unfolding bounded
+bounded-at b hs h = limit-at (b .limit) hs (and-true (limited (b .limit) hs) _ h .0)
 
 -- each of a list of counts stays below a bound where one of them is set below it
 pub set-below : (l : List ℕ) (i v b : ℕ) → v < b → ((j : ℕ) → j < length l → getD l j 0 < b) → (j : ℕ) → j < length l

@@ -1,26 +1,26 @@
 -- Marks of used words, and the walk over the pending answers. A store of any size, any bench.
 -- Assumes nothing.
-use Prim.Native.Nat.{ℕ, suc, _+_, _≤_, _<_, max, min}
+use Prim.Native.Nat.{ℕ, suc, _+_, _-_, _≤_, _<_, max, min}
 use mathlib.Core.Path.{_≡_, refl, sym, _∙_}
 use mathlib.Core.Logic.{⊎-elim}
 use mathlib.Core.Bool.{Bool, true, false, _&&_, _||_, and-false}
 use mathlib.Core.List.{List, [], _∷_, _++_, map}
-use native.Mathlib.Numerals.{add-one}
+use native.Mathlib.Nat.{sub-zero}
 use native.Mathlib.Omega.{arith}
 use lib.Dec.{leb, ltb}
-use lib.ListN.{length, drop, getD, set, length-set, length-take, drop-of-length-le}
-use lib.Seq.{getD-set-same, getD-set-other, getD-take, drop-cons}
-use borrow.Author.Tests.{lt-ltb, le-ltb, le-leb, lt-leb, eq-eqb}
-use Rattle.units.specs.Count.{every}
-use Rattle.units.proofs.Choice.{or-false}
+use lib.ListN.{length, drop, getD, set, length-set, drop-of-length-le}
+use lib.Seq.{getD-set-same, getD-set-other, drop-cons}
+use borrow.Author.Tests.{lt-ltb, le-ltb, le-leb, lt-leb}
+use Rattle.units.proofs.Choice.{no-and, or-false}
 use Rattle.meaning.specs.Bench.{Bench}
-use Rattle.state.specs.Consistent.{overlap, clearOf, okAnswer, spots, inOrder, most, few, fineLists}
-use Rattle.state.specs.Machine.{placesOf}
+use Rattle.state.specs.Consistent.{overlap, clearOf, okAnswer, spots, inOrder, fineLists}
+use Rattle.state.specs.Machine.{startsOf}
 use Rattle.state.specs.State.{freshNode}
 use Rattle.state.specs.declared.node.Node.{Node}
 use Rattle.state.specs.declared.node.Pending.{Pending}
 use Rattle.state.proofs.InOrder.{listAt}
 use Rattle.state.proofs.Lists.{below-or}
+use Rattle.state.proofs.Starts.{starts-tail}
 use Rattle.lists.specs.Marks.{Marked, Free, Taken}
 
 -- true is not false
@@ -92,69 +92,57 @@ module _ (store : List ℕ) where
       (below-or w (q + getD store q 0)))
       (below-or w q)
 
--- ---- the walk: m marks the words of the answers passed, and the lists are fine exactly if f and the rest is in order
-pub record Walk (b : Bench) (size : ℕ) (store : List ℕ) (ns : List Node) (m : List Bool) (f : Bool) (rest : List (ℕ × ℕ)) : Type 0 where
+-- ---- the walk: m marks the words of the answers passed, and the lists are fine exactly if the rest is in order
+pub record Walk (b : Bench) (size : ℕ) (store : List ℕ) (ns : List Node) (m : List Bool) (rest : List (ℕ × ℕ)) : Type 0 where
   pub past : List ℕ
   pub long : length m ≡ size
   pub same : (w : ℕ) → w < size → getD m w false ≡ covered store past w
-  pub goes : fineLists b store ns ≡ f && inOrder b store past rest
+  pub goes : fineLists b store ns ≡ inOrder b store past rest
 
--- one answer more of a list
-one-more : (i : ℕ) (ps : List ℕ) (k : ℕ) (r : List (ℕ × ℕ)) → k < length ps
-    → map (λ p. (i, p)) (drop k ps) ++ r ≡ (i, getD ps k 0) ∷ (map (λ p. (i, p)) (drop (k + 1) ps) ++ r)
-one-more i ps k r h = rw (add-one, drop-cons ps k 0 h)
+-- what is to come before node i ..
+abbrev pub nodesLeft : List ℕ → List Node → ℕ → List (ℕ × ℕ)
+nodesLeft store ns i = spots store i (drop i ns)
+
+-- .. and within its list, where n answers are left and the next begins at p
+abbrev pub left : List ℕ → List Node → ℕ → ℕ → ℕ → List (ℕ × ℕ)
+left store ns i n p = map (λ q. (i, q)) (startsOf store n p) ++ nodesLeft store ns (suc i)
 
 module _ (b : Bench) (size : ℕ) (store : List ℕ) (ns : List Node) where
   pub walk-start : (m : List Bool) → length m ≡ size → ((w : ℕ) → w < size → getD m w false ≡ false)
-      → Walk b size store ns m (few ns) (spots 0 ns)
+      → Walk b size store ns m (nodesLeft store ns 0)
   unfolding fineLists covered
   walk-start m l z = record { past = []; long = l; same = z; goes = refl }
 
-  -- at node i: into its list ..
-  pub walk-in : (m : List Bool) (i : ℕ) (l : Pending) → i < length ns → l ≡ listAt ns i → l .count ≤ most → length (l .places) ≡ most
-      → Walk b size store ns m (few (drop i ns)) (spots i (drop i ns))
-      → Walk b size store ns m (few (drop (suc i) ns)) (map (λ p. (i, p)) (drop 0 (placesOf l)) ++ spots (suc i) (drop (suc i) ns))
-  unfolding few spots every
-  walk-in m i l h e c g k =
-      let n = rw (drop-cons ns i freshNode h) at (k .goes) in
-      let c′ : listAt ns i .count ≤ most = rw e at c in
-      let g′ : length (listAt ns i .places) ≡ most = rw e at g in
-      record { past = k .past; long = k .long; same = k .same; goes = n ∙ rw e (simp (le-leb _ _ c′, eq-eqb _ _ g′)) }
-
-  -- .. unless it is too long
-  pub walk-few : (m : List Bool) (i : ℕ) (l : Pending) → i < length ns → l ≡ listAt ns i → most < l .count
-      → Walk b size store ns m (few (drop i ns)) (spots i (drop i ns)) → fineLists b store ns ≡ false
-  unfolding few spots every
-  walk-few m i l h e c k =
-      let n = rw (drop-cons ns i freshNode h) at (k .goes) in
-      let c′ : most < listAt ns i .count = rw e at c in
-      n ∙ simp (lt-leb _ _ c′)
+  -- at node i: into its list
+  pub walk-in : (m : List Bool) (i : ℕ) (l : Pending) → i < length ns → l ≡ listAt ns i → Walk b size store ns m (nodesLeft store ns i)
+      → Walk b size store ns m (left store ns i (l .count - 0) (l .place))
+  unfolding spots
+  walk-in m i l h e k = rw (sub-zero, e) (rw (drop-cons ns i freshNode h) at k)
 
   -- at an answer: not in order ..
-  pub walk-bad : (m : List Bool) (f : Bool) (i p : ℕ) (rest : List (ℕ × ℕ)) → Walk b size store ns m f ((i, p) ∷ rest)
+  pub walk-bad : (m : List Bool) (i p : ℕ) (rest : List (ℕ × ℕ)) → Walk b size store ns m ((i, p) ∷ rest)
       → okAnswer b store i p ≡ false → fineLists b store ns ≡ false
   unfolding inOrder
-  walk-bad m f i p rest k h = k .goes ∙ simp (h, and-false)
+  walk-bad m i p rest k h = k .goes ∙ no-and _ h
 
   -- .. or with a word that is marked ..
-  pub walk-taken : (m : List Bool) (f : Bool) (i p : ℕ) (rest : List (ℕ × ℕ)) → Walk b size store ns m f ((i, p) ∷ rest)
+  pub walk-taken : (m : List Bool) (i p : ℕ) (rest : List (ℕ × ℕ)) → Walk b size store ns m ((i, p) ∷ rest)
       → okAnswer b store i p ≡ true → p + getD store p 0 ≤ size → Taken m p (getD store p 0) → fineLists b store ns ≡ false
   unfolding inOrder
-  walk-taken m f i p rest k h l t =
+  walk-taken m i p rest k h l t =
       k .goes
       ∙ simp (
         h,
         clear-taken store (k .past) p (t .place) (t .from) (t .to)
             (sym (k .same (t .place) (omega (arith, t .to))) ∙ t .marked),
-        and-false,
       )
 
   -- .. or passed
-  pub walk-next : (m m′ : List Bool) (f : Bool) (i p : ℕ) (rest : List (ℕ × ℕ)) → Walk b size store ns m f ((i, p) ∷ rest)
+  pub walk-next : (m m′ : List Bool) (i p : ℕ) (rest : List (ℕ × ℕ)) → Walk b size store ns m ((i, p) ∷ rest)
       → okAnswer b store i p ≡ true → p + getD store p 0 ≤ size → Free m p (getD store p 0) → Marked m m′ p (getD store p 0)
-      → Walk b size store ns m′ f rest
+      → Walk b size store ns m′ rest
   unfolding inOrder covered
-  walk-next m m′ f i p rest k h l u v =
+  walk-next m m′ i p rest k h l u v =
       record {
         past = p ∷ k .past;
         long = v .long ∙ k .long;
@@ -168,23 +156,17 @@ module _ (b : Bench) (size : ℕ) (store : List ℕ) (ns : List Node) where
         goes = k .goes ∙ simp (h, clear-free store (k .past) p (λ w a c. sym (k .same w (omega arith)) ∙ u w a c));
       }
 
-  pub walk-end : (m : List Bool) (i : ℕ) → length ns ≤ i → Walk b size store ns m (few (drop i ns)) (spots i (drop i ns))
-      → fineLists b store ns ≡ true
-  unfolding few spots inOrder every
+  pub walk-end : (m : List Bool) (i : ℕ) → length ns ≤ i → Walk b size store ns m (nodesLeft store ns i) → fineLists b store ns ≡ true
+  unfolding spots inOrder
   walk-end m i h k = k .goes ∙ rw (drop-of-length-le ns {i = i} h)
 
-  module _ (m : List Bool) where
-    -- the walk stands at the list's answer k
-    pub walk-at : (f : Bool) (i : ℕ) (l : Pending) (k : ℕ) (r : List (ℕ × ℕ)) → k < l .count → l .count ≤ length (l .places)
-        → Walk b size store ns m f (map (λ p. (i, p)) (drop k (placesOf l)) ++ r)
-        → Walk b size store ns m f ((i, getD (l .places) k 0) ∷ (map (λ p. (i, p)) (drop (k + 1) (placesOf l)) ++ r))
-    walk-at f i l k r h g w =
-        let q : k < length (placesOf l) = simp length-take (omega arith) in
-        rw (← getD-take (l .count) (l .places) k 0 h) (rw (one-more i (placesOf l) k r q) at w)
+  module _ (m : List Bool) (i n k p : ℕ) where
+    -- the walk stands at answer k of a list of n
+    pub walk-at : k < n → Walk b size store ns m (left store ns i (n - k) p)
+        → Walk b size store ns m ((i, p) ∷ left store ns i (n - (k + 1)) (p + getD store p 0))
+    walk-at h w = let e : n - k ≡ suc (n - (k + 1)) = omega arith in rw (e, starts-tail) at w
 
-    -- the walk has passed the list's answers
-    pub walk-out : (f : Bool) (i : ℕ) (l : Pending) (k : ℕ) (r : List (ℕ × ℕ)) → l .count ≤ k
-        → Walk b size store ns m f (map (λ p. (i, p)) (drop k (placesOf l)) ++ r) → Walk b size store ns m f r
-    walk-out f i l k r h w =
-        let q : length (placesOf l) ≤ k = simp length-take (omega arith) in
-        rw (drop-of-length-le (placesOf l) q) at w
+    -- the walk has passed a list of n answers
+    pub walk-out : n ≤ k → Walk b size store ns m (left store ns i (n - k) p) → Walk b size store ns m (nodesLeft store ns (suc i))
+    unfolding startsOf
+    walk-out h w = let e : n - k ≡ 0 = omega arith in rw e at w

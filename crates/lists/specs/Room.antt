@@ -8,10 +8,15 @@ use lib.ListN.{getD, set}
 use Rattle.units.specs.declared.Words.{Words}
 use Rattle.meaning.specs.Bench.{Bench}
 use Rattle.state.specs.Consistent.{chargesOf}
+use Rattle.state.specs.declared.node.Node.{Node}
 
 -- word counts as numbers
 abbrev pub counts : List Words → List ℕ
 counts ws = map (λ w. w .0) ws
+
+-- the held words of each node, as its list counts them
+abbrev pub wordsOf : List Node → List ℕ
+wordsOf ns = map (λ n. n .list .words .0) ns
 
 -- an answer of so many words has room at the node of index i, where the nodes hold hs
 unfoldable pub roomFor : Bench → List ℕ → ℕ → ℕ → Bool

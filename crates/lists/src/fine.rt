@@ -3,8 +3,7 @@ use crate::room::charges;
 use crate::room::helds;
 use meaning::packet::ResponseRead;
 use response::read_response;
-use state::State;
-use state::list_of;
+use state::node::Node;
 use state::node::Pending;
 use units::Form;
 use units::Words;
@@ -12,11 +11,15 @@ ghost use mathlib.Core.Path.{_≡_};
 ghost use mathlib.Core.Logic.{_⊎_};
 ghost use mathlib.Core.Bool.{true, false};
 ghost use Prim.Native.Nat.{_+_, _≤_, _<_};
-ghost use lib.ListN.{length, drop};
+ghost use lib.Dec.{eqb};
+ghost use lib.ListN.{length};
+ghost use Rattle.meaning.specs.Room.{added};
+ghost use Rattle.state.specs.Machine.{pendingOf};
 ghost use Rattle.units.specs.Count.{every};
 ghost use Rattle.meaning.specs.Bench.{full};
-ghost use Rattle.state.specs.Consistent.{nodeAt, okAnswer, fineLists, bounded, zeros, tailClear, listsOk};
+ghost use Rattle.state.specs.Consistent.{nodeAt, okAnswer, fineLists, counted, bounded, listClear, listsOk};
 ghost use Rattle.lists.specs.Room.{counts};
+ghost use Rattle.lists.specs.Walked.{InStore};
 ghost use Rattle.lists.specs.Marks.{Marked, Free, Taken};
 
 // The node at an index of the nodes.
@@ -78,23 +81,20 @@ fn mark(used: &mut [bool; 4096], place: usize, len: usize)
 }
 
 // Whether every answer is in order and no two share a word. A word is marked when an answer has it.
-fn fine_lists(s: State, store: &[u16]) -> bool
+fn fine_lists(nodes: [Node; 17], store: &[u16]) -> bool
     requires { ⌜ length (now store) ≡ 4096 ⌝ }
-    ensures { λ r. ⌜ r ≡ fineLists full (now (store .entry)) (s .nodes) ⌝ }
+    ensures { λ r. ⌜ r ≡ fineLists full (now (store .entry)) nodes ⌝ }
 {
     let mut used = [false; 4096];
     let mut fine = true;
     let mut i: usize = 0;
     'nodes: while i < 17 {
-        let list = list_of(s, i);
+        let n = nodes[i];
+        let list = n.list;
         let count = list.count;
-        if 134 < count {
-            fine = false;
-            break 'nodes;
-        }
+        let mut place = list.place;
         let mut k: usize = 0;
         while k < count {
-            let place = list.places[k] as usize;
             if !answer_ok(store, i, place) {
                 fine = false;
                 break 'nodes;
@@ -105,11 +105,45 @@ fn fine_lists(s: State, store: &[u16]) -> bool
                 break 'nodes;
             }
             mark(&mut used, place, len);
+            place += len;
             k += 1;
         }
         i += 1;
     }
     fine
+}
+
+// Whether the words of a list are as many as it says. Its answers are in order.
+fn is_counted(list: Pending, i: usize, store: &[u16]) -> bool
+    requires { ⌜ InStore full (now store) i list ⌝ }
+    requires { ⌜ length (now store) ≡ 4096 ⌝ }
+    ensures { λ r. ⌜ r ≡ eqb (list .words .0) (added (pendingOf (now (store .entry)) list)) ⌝ }
+{
+    let count = list.count;
+    let mut sum: usize = 0;
+    let mut k: usize = 0;
+    while k < count {
+        let place = list.place + sum;
+        sum += store[place] as usize;
+        k += 1;
+    }
+    list.words.0 == sum
+}
+
+fn all_counted(nodes: [Node; 17], store: &[u16]) -> bool
+    requires { ⌜ (length (now store) ≡ 4096) × (fineLists full (now store) nodes ≡ true) ⌝ }
+    ensures { λ r. ⌜ r ≡ every (counted (now (store .entry))) nodes ⌝ }
+{
+    let mut i: usize = 0;
+    while i < 17 {
+        let n = nodes[i];
+        let list = n.list;
+        if !is_counted(list, i, store) {
+            return false;
+        }
+        i += 1;
+    }
+    true
 }
 
 // Whether the held words meet both bounds.
@@ -127,26 +161,15 @@ fn bounds_met(hs: [Words; 17]) -> bool
     charges(hs).0 <= Words::STORE
 }
 
-// Whether the places past a list are 0.
-fn tail_clear(list: Pending) -> bool
-    ensures { λ r. ⌜ r ≡ zeros (drop (list .count) (list .places)) ⌝ }
-{
-    let mut k = list.count;
-    while k < 134 {
-        if list.places[k] != 0 {
-            return false;
-        }
-        k += 1;
-    }
-    true
-}
-
-fn tails_clear(s: State) -> bool
-    ensures { λ r. ⌜ r ≡ every tailClear (s .nodes) ⌝ }
+// Whether the lists that have no answer have no place.
+fn lists_clear(nodes: [Node; 17]) -> bool
+    ensures { λ r. ⌜ r ≡ every listClear nodes ⌝ }
 {
     let mut i: usize = 0;
     while i < 17 {
-        if !tail_clear(list_of(s, i)) {
+        let n = nodes[i];
+        let list = n.list;
+        if list.count == 0 && list.place != 0 {
             return false;
         }
         i += 1;
@@ -155,16 +178,18 @@ fn tails_clear(s: State) -> bool
 }
 
 // Whether the pending lists are as a consistent state has them.
-pub fn lists_ok(s: State, store: &[u16]) -> bool
+pub fn lists_ok(nodes: [Node; 17], store: &[u16]) -> bool
     requires { ⌜ length (now store) ≡ 4096 ⌝ }
-    ensures { λ r. ⌜ r ≡ listsOk full (now (store .entry)) (s .nodes) ⌝ }
+    ensures { λ r. ⌜ r ≡ listsOk full (now (store .entry)) nodes ⌝ }
 {
-    if !fine_lists(s, store) {
+    if !fine_lists(nodes, store) {
         return false;
     }
-    let hs = helds(s, store);
-    if !bounds_met(hs) {
+    if !all_counted(nodes, store) {
         return false;
     }
-    tails_clear(s)
+    if !bounds_met(helds(nodes)) {
+        return false;
+    }
+    lists_clear(nodes)
 }

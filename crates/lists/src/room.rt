@@ -1,16 +1,13 @@
 // Held words, charges and room.
-use state::State;
-use state::node::Pending;
+use state::node::Node;
 use units::Words;
 ghost use mathlib.Core.Path.{_≡_};
 ghost use mathlib.Core.Bool.{true};
 ghost use Prim.Native.Nat.{ℕ, _≤_, _<_};
 ghost use lib.ListN.{getD};
 ghost use Rattle.meaning.specs.Bench.{full};
-ghost use Rattle.meaning.specs.Room.{added};
-ghost use Rattle.state.specs.Machine.{pendingOf};
-ghost use Rattle.state.specs.Consistent.{few, heldsOf, chargesOf};
-ghost use Rattle.lists.specs.Room.{counts, roomFor};
+ghost use Rattle.state.specs.Consistent.{chargesOf, bounded};
+ghost use Rattle.lists.specs.Room.{counts, wordsOf, roomFor};
 
 // The Overall Length of the answer at a place of the store.
 pub fn length_at(store: &[u16], place: usize) -> Words
@@ -22,33 +19,18 @@ pub fn length_at(store: &[u16], place: usize) -> Words
     Words(0)
 }
 
-pub fn held(list: Pending, store: &[u16]) -> Words
-    requires { ⌜ list .count ≤ 134 ⌝ }
-    ensures { λ r. ⌜ r .0 ≡ added (pendingOf (now (store .entry)) list) ⌝ }
-{
-    let count = list.count;
-    let mut sum: usize = 0;
-    let mut k: usize = 0;
-    while k < count {
-        let place = list.places[k] as usize;
-        sum += length_at(store, place).0;
-        k += 1;
-    }
-    Words(sum)
-}
-
 // The held words of every node.
-pub fn helds(s: State, store: &[u16]) -> [Words; 17]
-    requires { ⌜ few (s .nodes) ≡ true ⌝ }
-    ensures { λ r. ⌜ counts r ≡ heldsOf (now (store .entry)) (s .nodes) ⌝ }
+pub fn helds(nodes: [Node; 17]) -> [Words; 17]
+    ensures { λ r. ⌜ counts r ≡ wordsOf nodes ⌝ }
 {
     let zero = Words(0);
     let mut hs = [zero; 17];
     let mut i: usize = 0;
     while i < 17 {
-        let n = s.nodes[i];
+        let n = nodes[i];
         let list = n.list;
-        hs[i] = held(list, store);
+        let h = list.words;
+        hs[i] = h;
         i += 1;
     }
     hs
@@ -70,11 +52,11 @@ pub fn charges(hs: [Words; 17]) -> Words
 }
 
 // Whether an answer of `new` words has room at the node of index i.
-pub fn has_room(s: State, store: &[u16], i: usize, new: Words) -> bool
-    requires { ⌜ (few (s .nodes) ≡ true) × (i < 17) × (new .0 ≤ 134) ⌝ }
-    ensures { λ r. ⌜ r ≡ roomFor full (heldsOf (now (store .entry)) (s .nodes)) i (new .0) ⌝ }
+pub fn has_room(nodes: [Node; 17], i: usize, new: Words) -> bool
+    requires { ⌜ (bounded full (wordsOf nodes) ≡ true) × (i < 17) × (new .0 ≤ 134) ⌝ }
+    ensures { λ r. ⌜ r ≡ roomFor full (wordsOf nodes) i (new .0) ⌝ }
 {
-    let mut hs = helds(s, store);
+    let mut hs = helds(nodes);
     let h = hs[i];
     let after = h.0 + new.0;
     if Words::LIMIT < after {

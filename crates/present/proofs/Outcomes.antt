@@ -28,7 +28,7 @@ use Rattle.state.specs.declared.reader.Plaque.{Plaque}
 use Rattle.state.specs.declared.reader.Reader.{Reader}
 use Rattle.state.specs.declared.State.{State}
 use Rattle.store.specs.declared.Queued.{Queued}
-use Rattle.store.proofs.Laid.{blank}
+use Rattle.state.proofs.InOrder.{blank}
 use Rattle.promise.specs.Obeyed.{spoken, Does, Makes}
 use Rattle.promise.specs.declared.Reply.{Reply}
 use Rattle.promise.specs.declared.Called.{Called}

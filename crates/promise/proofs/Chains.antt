@@ -17,7 +17,7 @@ use Rattle.demands.specs.Demand.{Line, line, log, kept, struck, stays, Ease}
 use Rattle.demands.proofs.Room.{refusal-changes-nothing}
 use Rattle.demands.proofs.Alone.{strike-out}
 use Rattle.state.specs.State.{freshReader, freshNode}
-use Rattle.state.specs.Machine.{Machine, meaning, seen, nodeSlot, readerSlot, nodesOf, readersOf, nodeOf, pendingOf, readerOf, fieldOf, modeOf, regionOf, plain}
+use Rattle.state.specs.Machine.{Machine, meaning, seen, nodeSlot, readerSlot, nodesOf, readersOf, nodeOf, startsOf, pendingOf, readerOf, fieldOf, modeOf, regionOf, plain}
 use Rattle.state.specs.Consistent.{nodeOk, plaqueOk, readingOk, reportOk, readerOk, nameOk, unfit}
 use Rattle.store.proofs.Swept.{fresh-lists}
 use Rattle.promise.specs.Obeyed.{turned, expected, Obeyed}
@@ -121,7 +121,7 @@ map-row f zero x = refl
 map-row f (suc k) x = ap (λ l. f x ∷ l) (map-row f k x)
 
 pub fresh-means : (b : Bench) (store memory : List ℕ) → meaning b (freshMachine store memory) ≡ fresh (regionOf b memory)
-unfolding meaning fresh nodesOf readersOf nodeOf pendingOf readerOf fieldOf modeOf
+unfolding meaning fresh nodesOf readersOf nodeOf startsOf pendingOf readerOf fieldOf modeOf
 fresh-means b store memory =
     let ns : seen (isNode b) (nodeSlot b) plain (map (nodeOf store) (replicate 17 freshNode)) ≡ (λ (n : ℕ). plain) =
     ap (seen (isNode b) (nodeSlot b) plain) (map-row (nodeOf store) 17 freshNode)

@@ -1,55 +1,43 @@
 -- One node changed, as by an acknowledgement; and the name changed.
 -- Assumes nothing.
-use Prim.Native.Nat.{ℕ, zero, suc, _+_, _≤_, _<_}
-use mathlib.Core.Path.{_≡_, refl, ap, _∙_, subst}
+use Prim.Native.Nat.{ℕ, zero, suc, _+_, _<_}
+use mathlib.Core.Path.{_≡_, refl, ap, _∙_}
 use mathlib.Core.Bool.{Bool, true, false, cond}
 use mathlib.Core.List.{List, [], _∷_, map}
 use native.Mathlib.Omega.{arith}
 use lib.Dec.{leb, eqb}
-use lib.ListN.{length, getD, take, set, length-map, length-take}
+use lib.ListN.{length, getD, take, set, length-map}
 use borrow.Author.Tests.{le-leb}
 use Rattle.units.specs.Count.{every}
 use Rattle.meaning.specs.Bench.{Bench, isNode}
 use Rattle.meaning.specs.Gateway as M
 use Rattle.meaning.specs.Gateway.{put, setNode, setName, onward}
-use Rattle.state.specs.State.{freshNode}
-use Rattle.state.specs.Machine.{Machine, machine, meaning, seen, nodeSlot, nodesOf, readersOf, nodeOf, answerAt, pendingOf, plain}
-use Rattle.state.specs.Consistent.{most, listsOk, nodeOk, nameOk, unfit}
+use Rattle.state.specs.Machine.{Machine, machine, meaning, seen, nodeSlot, nodesOf, readersOf, nodeOf, answerAt, startsOf, pendingOf, plain}
+use Rattle.state.specs.Consistent.{listsOk, nodeOk, nameOk, unfit}
 use Rattle.state.specs.declared.node.Pending.{Pending}
 use Rattle.state.specs.declared.node.Node.{Node}
 use Rattle.state.specs.declared.Name.{Name}
 use Rattle.state.specs.declared.State.{State}
 use Rattle.state.proofs.Lists.{map-set}
-use Rattle.state.proofs.InOrder.{few-at}
 use Rattle.store.specs.Layout.{withNodes}
-use Rattle.store.proofs.Order.{lists-few}
 use Rattle.promise.proofs.Parts.{Parts, parts, fit, Means}
 use Rattle.promise.proofs.Tables.{seen-set, node-inj, node-inside}
 
 -- ---- the answers of a list
 pub pending-none : (store : List ℕ) (l : Pending) → l .count ≡ 0 → pendingOf store l ≡ []
+unfolding pendingOf startsOf
+pending-none store l e = ap (λ (k : ℕ). map (answerAt store) (startsOf store k (l .place))) e
+
+-- the oldest begins where the list does
+first-of : (store : List ℕ) (k p : ℕ) → 0 < k → (ws : List (List ℕ)) × (map (answerAt store) (startsOf store k p) ≡ answerAt store p ∷ ws)
+unfolding startsOf
+first-of store zero p h = absurd (omega arith)
+first-of store (suc k) p h = (map (answerAt store) (startsOf store k (p + getD store p 0)), refl)
+
+pub pending-some : (store : List ℕ) (l : Pending) → 0 < l .count
+    → (ws : List (List ℕ)) × (pendingOf store l ≡ answerAt store (l .place) ∷ ws)
 unfolding pendingOf
-pending-none store l e = ap (λ (k : ℕ). map (answerAt store) (take k (l .places))) e
-
-first-of : {A : Type 0} (f : ℕ → A) (k : ℕ) (l : List ℕ) → 0 < k → k ≤ length l → (ws : List A) × (map f (take k l) ≡ f (getD l 0 0) ∷ ws)
-first-of f zero l h j = absurd (omega arith)
-first-of f (suc k) [] h j = absurd (omega arith)
-first-of f (suc k) (x ∷ l) h j = (map f (take k l), refl)
-
-pub pending-some : (store : List ℕ) (l : Pending) → 0 < l .count → l .count ≤ length (l .places)
-    → (ws : List (List ℕ)) × (pendingOf store l ≡ answerAt store (getD (l .places) 0 0) ∷ ws)
-unfolding pendingOf
-pending-some store l h k = first-of (answerAt store) (l .count) (l .places) h k
-
-pub pending-long : (store : List ℕ) (l : Pending) → l .count ≤ length (l .places) → length (pendingOf store l) ≡ l .count
-unfolding pendingOf
-pending-long store l k = simp (length-map, length-take) (omega arith)
-
--- the list of the node at an index has a place for each of its answers
-pub list-few : (b : Bench) (store : List ℕ) (ns : List Node) (i : ℕ) → i < length ns → listsOk b store ns ≡ true → (x : Node)
-    → getD ns i freshNode ≡ x → (x .list .count ≤ most) × (length (x .list .places) ≡ most)
-list-few b store ns i h o x at =
-    subst (λ (y : Node). (y .list .count ≤ most) × (length (y .list .places) ≡ most)) at (few-at ns (lists-few b store ns o) i h)
+pending-some store l h = first-of store (l .count) (l .place) h
 
 -- ---- nodes replaced
 module _ (b : Bench) (m : Machine) where

@@ -14,15 +14,18 @@ use Rattle.units.specs.declared.Form.{Form}
 use Rattle.units.proofs.Choice.{yes-cond, no-cond}
 use Rattle.meaning.specs.Bench.{Bench, isNode}
 use Rattle.meaning.specs.Response.{bears, shown}
+use Rattle.meaning.specs.Room.{added}
 use Rattle.meaning.specs.Gateway as M
 use Rattle.meaning.specs.Gateway.{setNode, taken}
 use Rattle.meaning.specs.Call.{collect, acknowledge, Said, refused, answered, done, handed, Outcome, step}
 use Rattle.state.specs.State.{freshNode}
-use Rattle.state.specs.Machine.{Machine, machine, meaning, nodeSlot, nodeOf, answerAt, pendingOf}
-use Rattle.state.specs.Consistent.{most, nodeOk, listsOk, unfit}
+use Rattle.state.specs.Machine.{Machine, machine, meaning, nodeSlot, nodeOf, answerAt, placesOf, pendingOf}
+use Rattle.state.specs.Consistent.{counted, nodeOk, listsOk, unfit}
 use Rattle.state.specs.declared.node.Node.{Node}
-use Rattle.state.proofs.InOrder.{fine-ok}
-use Rattle.state.proofs.Formed.{Lies, lies}
+use Rattle.state.proofs.Lists.{every-get}
+use Rattle.state.proofs.InOrder.{listAt, fine-ok}
+use Rattle.state.proofs.Formed.{Lies, lies, first-word}
+use Rattle.state.proofs.Starts.{span-none, starts-at}
 use Rattle.store.specs.Layout.{withNodes, putIn}
 use Rattle.store.proofs.Every.{every-set}
 use Rattle.store.proofs.Order.{lists-parts}
@@ -31,7 +34,7 @@ use Rattle.promise.specs.Obeyed.{turned, Does, expected, Obeyed, replied
 use Rattle.promise.specs.declared.Handout.{Handout}
 use Rattle.promise.proofs.Parts.{parts, fit, Means}
 use Rattle.promise.proofs.Tables.{node-inside, node-at}
-use Rattle.promise.proofs.Nodes.{list-few, pending-none, pending-some, node-means, node-fit, onward-ok}
+use Rattle.promise.proofs.Nodes.{pending-none, pending-some, node-means, node-fit, onward-ok}
 use Rattle.promise.proofs.Promises.{saying, turning, obeying}
 use Rattle.promise.proofs.Steps.{acknowledge-7, acknowledge-14, acknowledge-15, acknowledge-0, collect-7, collect-14, collect-16, collect-0, collect-keeps}
 
@@ -56,42 +59,54 @@ module _ (b : Bench) (m : Machine) (fits : unfit b m ≡ 0) (n i : ℕ) (is : is
   pub index-inside : i < length (m .state .nodes)
   index-inside = subst (λ (j : ℕ). j < length (m .state .nodes)) slot (node-inside b n (length (m .state .nodes)) is (parts b m fits .eachNode))
 
-  -- its list has a place for each of its answers
-  pub list-wide : (x .list .count ≤ most) × (length (x .list .places) ≡ most)
-  list-wide = list-few b (m .store) (m .state .nodes) i index-inside (parts b m fits .lists) x at
+  -- its count of its words is right
+  pub words-are : x .list .words .0 ≡ added (pendingOf (m .store) (x .list))
+  unfolding counted
+  words-are =
+      subst (λ (y : Node). y .list .words .0 ≡ added (pendingOf (m .store) (y .list))) at
+      (eqb-true _ _
+      (every-get (counted (m .store)) (m .state .nodes) i freshNode (lists-parts b (m .store) (m .state .nodes) (parts b m fits .lists) .1) index-inside))
 
   module _ (some : 0 < x .list .count) where
-    room-for : x .list .count ≤ length (x .list .places)
-    room-for = let w = list-wide in omega arith
-
     -- the oldest answer
     abbrev pub oldest : List ℕ
-    oldest = answerAt (m .store) (getD (x .list .places) 0 0)
+    oldest = answerAt (m .store) (x .list .place)
 
     pub oldest-first : (ws : List (List ℕ)) × (meaning b m .nodes n .pending ≡ oldest ∷ ws)
-    oldest-first = let p = pending-some (m .store) (x .list) some room-for in (p .0, pending-is ∙ p .1)
+    oldest-first = let p = pending-some (m .store) (x .list) some in (p .0, pending-is ∙ p .1)
 
-    pub oldest-lies : Lies b (m .store) i (getD (x .list .places) 0 0)
+    pub oldest-lies : Lies b (m .store) i (x .list .place)
     oldest-lies =
-        let o = lists-parts b (m .store) (m .state .nodes) (parts b m fits .lists) .0 in
-        subst (λ (y : Node). Lies b (m .store) i (getD (y .list .places) 0 0)) at
-        (lies b (m .store) i _ (fine-ok b (m .store) (m .state .nodes) o i index-inside 0 (subst (λ (y : Node). 0 < y .list .count) (sym at) some)))
+        let store = m .store in
+        let ns = m .state .nodes in
+        let o = lists-parts b store ns (parts b m fits .lists) .0 in
+        let k : 0 < listAt ns i .count = subst (λ (y : Node). 0 < y .list .count) (sym at) some in
+        let e : getD (placesOf store (listAt ns i)) 0 0 ≡ listAt ns i .place =
+        starts-at store (listAt ns i .count) (listAt ns i .place) 0 k ∙ omega (arith, span-none store (listAt ns i .place)) in
+        subst (λ (y : Node). Lies b store i (y .list .place)) at (lies b store i _ (rw e at (fine-ok b store ns o i index-inside 0 k)))
+
+    -- its words are among its list's
+    pub oldest-counted : getD (m .store) (x .list .place) 0 ≤ x .list .words .0
+    unfolding added
+    oldest-counted =
+        let p = pending-some (m .store) (x .list) some in
+        omega (arith, words-are, ap added (p .1), first-word (m .store) (x .list .place))
 
     -- without it
-    pub taken-changed : Means b (machine (withNodes (m .state) (set (m .state .nodes) i (takenNode x))) (m .store) (m .memory))
+    pub taken-changed : Means b (machine (withNodes (m .state) (set (m .state .nodes) i (takenNode (m .store) x))) (m .store) (m .memory))
         (setNode n (taken (meaning b m .nodes n)) (meaning b m))
     unfolding nodeOk
     taken-changed =
         let p = parts b m fits in
-        let o : listsOk b (m .store) (set (m .state .nodes) i (takenNode x)) ≡ true =
-        ap (λ (y : Node). listsOk b (m .store) (set (m .state .nodes) i (takenNode y))) (sym at)
+        let o : listsOk b (m .store) (set (m .state .nodes) i (takenNode (m .store) x)) ≡ true =
+        ap (λ (y : Node). listsOk b (m .store) (set (m .state .nodes) i (takenNode (m .store) y))) (sym at)
         ∙ taken-lists (m .store) (m .state .nodes) i index-inside (subst (λ (y : Node). 0 < y .list .count) (sym at) some) b (p .lists) in
         record {
-          fit = fit b _ (node-fit b m (set (m .state .nodes) i (takenNode x)) p (length-set (m .state .nodes) i (takenNode x)) o
-              (every-set nodeOk (m .state .nodes) i (takenNode x) (p .nodes) (onward-ok (x .handover))));
-          means = ap (λ (j : ℕ). meaning b (machine (withNodes (m .state) (set (m .state .nodes) j (takenNode x))) (m .store) (m .memory))) (sym slot)
-              ∙ node-means b m n (takenNode x) is p
-              ∙ ap (λ (y : M.Node). setNode n y (meaning b m)) (taken-node x some room-for (m .store) ∙ ap taken (sym node-is));
+          fit = fit b _ (node-fit b m (set (m .state .nodes) i (takenNode (m .store) x)) p (length-set (m .state .nodes) i (takenNode (m .store) x)) o
+              (every-set nodeOk (m .state .nodes) i (takenNode (m .store) x) (p .nodes) (onward-ok (x .handover))));
+          means = ap (λ (j : ℕ). meaning b (machine (withNodes (m .state) (set (m .state .nodes) j (takenNode (m .store) x))) (m .store) (m .memory))) (sym slot)
+              ∙ node-means b m n (takenNode (m .store) x) is p
+              ∙ ap (λ (y : M.Node). setNode n y (meaning b m)) (taken-node (m .store) x some ∙ ap taken (sym node-is));
         }
 
 -- ---- acknowledge
@@ -112,7 +127,7 @@ module _ (b : Bench) (m : Machine) (fits : unfit b m ≡ 0) (n h : ℕ) where
         (acknowledge-15 b (meaning b m) n h is _ (w .0) (w .1) (ap (eqb h) (handover-is b m fits n i is slot x at) ∙ ne-eqb h (x .handover) d))
 
     pub acked-0 : 0 < x .list .count → h ≡ x .handover
-        → Obeyed b (acknowledge n h) m (answered done) (machine (withNodes (m .state) (set (m .state .nodes) i (takenNode x))) (m .store) (m .memory))
+        → Obeyed b (acknowledge n h) m (answered done) (machine (withNodes (m .state) (set (m .state .nodes) i (takenNode (m .store) x))) (m .store) (m .memory))
     unfolding turned
     acked-0 some e =
         let w = oldest-first b m fits n i is slot x at some in
@@ -169,7 +184,7 @@ module _ (b : Bench) (m : Machine) (f : Form) (n room : ℕ) where
           refusing 14 out (collect-14 b (meaning b m) f n room is (pending-is b m fits n i is slot x at ∙ pending-none (m .store) (x .list) e))
 
       -- v is the oldest answer in the form asked for
-      module _ (some : 0 < x .list .count) (v : List ℕ) (e : shown f n (answerAt (m .store) (getD (x .list .places) 0 0)) ≡ v) where
+      module _ (some : 0 < x .list .count) (v : List ℕ) (e : shown f n (answerAt (m .store) (x .list .place)) ≡ v) where
         pub collected-16 : (out : List ℕ) → room < length v → Collects b (collect f n room) m (Handout.Refused 16) out out
         collected-16 out h =
             let w = oldest-first b m fits n i is slot x at some in

@@ -17,10 +17,11 @@ use Rattle.meaning.specs.Bench.{Bench, hub, isReader, isNode}
 use Rattle.meaning.specs.Gateway as M
 use Rattle.meaning.specs.Gateway.{Gateway, empty, plaque, Report, never, last, on}
 use Rattle.meaning.specs.Call.{Call, Said, refused, answered, queued, done, quiet, handed, Outcome}
+use Rattle.meaning.specs.Room.{added}
 use Rattle.demands.specs.Sound.{Sound}
 use Rattle.state.specs.State.{freshReader, freshNode}
 use Rattle.state.specs.Machine.{Machine, meaning, nodeSlot, readersOf, nodeOf, pendingOf, readerOf, fieldOf, modeOf, reportOf, regionOf}
-use Rattle.state.specs.Consistent.{most, zeros, tailClear, plaqueOk, readingOk, reportOk, nameOk}
+use Rattle.state.specs.Consistent.{zeros, counted, listClear, plaqueOk, readingOk, reportOk, nameOk}
 use Rattle.state.specs.declared.reader.Plaque as P
 use Rattle.state.specs.declared.reader.Reading as D
 use Rattle.state.specs.declared.reader.Report as T
@@ -28,6 +29,7 @@ use Rattle.state.specs.declared.reader.Reader.{Reader}
 use Rattle.state.specs.declared.node.Node.{Node}
 use Rattle.state.specs.declared.Name.{Name}
 use Rattle.state.proofs.Lists.{getD-any, below-or, every-get}
+use Rattle.state.proofs.Starts.{pending-long}
 use Rattle.store.proofs.Every.{both}
 use Rattle.store.proofs.Order.{lists-parts}
 use Rattle.promise.specs.Obeyed as O
@@ -38,7 +40,6 @@ use Rattle.promise.specs.declared.Handout.{Handout}
 use Rattle.promise.proofs.Parts.{Parts, parts}
 use Rattle.promise.proofs.Tables.{reader-node, reader-slot, node-hub, reader-at, node-at}
 use Rattle.promise.proofs.Readers.{ReaderParts, reader-parts, reader-in-order}
-use Rattle.promise.proofs.Nodes.{list-few, pending-long}
 
 -- all 0: fixed by the length
 zeros-are : (l : List ℕ) → zeros l ≡ true → l ≡ replicate (length l) 0
@@ -71,10 +72,10 @@ reader-by : {p q : P.Plaque} {r s : D.Reading} {t u : T.Report} → p ≡ q → 
     → _≡_ {A = Reader} (record { plaque = p; reading = r; report = t }) (record { plaque = q; reading = s; report = u })
 reader-by p r t = cc
 
-known-by : {i j h k c d : ℕ} {a e : List (List ℕ)} {p q : List ℕ} → i ≡ j → h ≡ k → c ≡ d → a ≡ e → p ≡ q
-    → _≡_ {A = Known} (record { instance = i; handover = h; count = c; answers = a; past = p })
-    (record { instance = j; handover = k; count = d; answers = e; past = q })
-known-by i h c a p = cc
+known-by : {i j h k c d w v p q : ℕ} {a e : List (List ℕ)} → i ≡ j → h ≡ k → c ≡ d → w ≡ v → a ≡ e → p ≡ q
+    → _≡_ {A = Known} (record { instance = i; handover = h; count = c; words = w; answers = a; none = p })
+    (record { instance = j; handover = k; count = d; words = v; answers = e; none = q })
+known-by i h c w a p = cc
 
 -- ---- the name
 name-same : (s t : Name) → nameOk s ≡ true → nameOk t ≡ true → length (s .bytes) ≡ 64 → length (t .bytes) ≡ 64
@@ -220,28 +221,32 @@ index-node b ok i h = go (below-or i (b .readers))
         record { node = i + 1; is = reader-node b (i + 1) r; slot = reader-slot b ok (i + 1) r ∙ omega arith }
     go (inr l) = record { node = hub; is = node-hub b; slot = omega arith }
 
--- a list has a place for each answer, and 0 past them
-record ListFit (x : Node) : Type 0 where
-  few : x .list .count ≤ most
-  wide : length (x .list .places) ≡ most
-  tail : tailClear x ≡ true
+-- a list's count of its words is right, and its place is 0 where it has no answer
+record ListFit (store : List ℕ) (x : Node) : Type 0 where
+  words : x .list .words .0 ≡ added (pendingOf store (x .list))
+  none : cond (eqb (x .list .count) 0) (x .list .place) 0 ≡ 0
 
-list-fit : (b : Bench) (m : Machine) → Parts b m → (i : ℕ) → i < b .readers + 1 → ListFit (getD (m .state .nodes) i freshNode)
+none-by : (t : Bool) (p : ℕ) → cond t (eqb p 0) true ≡ true → cond t p 0 ≡ 0
+none-by true p e = eqb-true p 0 e
+none-by false p e = refl
+
+list-fit : (b : Bench) (m : Machine) → Parts b m → (i : ℕ) → i < b .readers + 1 → ListFit (m .store) (getD (m .state .nodes) i freshNode)
+unfolding counted listClear
 list-fit b m p i h =
     let ns = m .state .nodes in
     let l : i < length ns = omega (arith, p .eachNode) in
-    let f = list-few b (m .store) ns i l (p .lists) _ refl in
-    record { few = f .0; wide = f .1; tail = every-get tailClear ns i freshNode (lists-parts b (m .store) ns (p .lists) .2) l }
+    let o = lists-parts b (m .store) ns (p .lists) in
+    record {
+      words = eqb-true _ _ (every-get (counted (m .store)) ns i freshNode (o .1) l);
+      none = none-by (eqb (getD ns i freshNode .list .count) 0) _ (every-get listClear ns i freshNode (o .3) l);
+    }
 
-known-same : (s t : List ℕ) (x y : Node) → ListFit x → ListFit y → nodeOf s x ≡ nodeOf t y → known s x ≡ known t y
-unfolding known nodeOf tailClear
+known-same : (s t : List ℕ) (x y : Node) → ListFit s x → ListFit t y → nodeOf s x ≡ nodeOf t y → known s x ≡ known t y
+unfolding known nodeOf
 known-same s t x y f g e =
     let a : pendingOf s (x .list) ≡ pendingOf t (y .list) = ap (λ (n : M.Node). n .pending) e in
-    let c : x .list .count ≡ y .list .count =
-    sym (pending-long s (x .list) (omega arith)) ∙ ap length a ∙ pending-long t (y .list) (omega arith) in
-    let l : length (drop (x .list .count) (x .list .places)) ≡ length (drop (y .list .count) (y .list .places)) = simp length-drop (omega arith) in
-    let d = zeros-same _ _ (f .tail) (g .tail) l in
-    known-by (ap (λ (n : M.Node). n .count) e) (ap (λ (n : M.Node). n .handover) e) c a d
+    let c : x .list .count ≡ y .list .count = sym (pending-long s (x .list)) ∙ ap length a ∙ pending-long t (y .list) in
+    known-by (ap (λ (n : M.Node). n .count) e) (ap (λ (n : M.Node). n .handover) e) c (f .words ∙ ap added a ∙ sym (g .words)) a (f .none ∙ sym (g .none))
 
 module _ (b : Bench) (ok : Sound b) (m n : Machine) (p : Parts b m) (q : Parts b n) (e : meaning b m ≡ meaning b n) where
   region-each : (k : ℕ) → regionOf b (m .memory) k ≡ regionOf b (n .memory) k

@@ -17,7 +17,6 @@ use Rattle.state.specs.Consistent.{listsOk, nodeOk, unfit}
 use Rattle.state.specs.declared.node.Node.{Node}
 use Rattle.store.specs.Layout.{withNodes}
 use Rattle.store.proofs.Every.{both}
-use Rattle.store.proofs.Order.{lists-few}
 use Rattle.store.proofs.Swept.{emptied-means, reset-means, emptied-lists, reset-lists}
 use Rattle.promise.proofs.Parts.{parts, fit, Means}
 use Rattle.promise.proofs.Tables.{seen-map}
@@ -68,11 +67,11 @@ module _ (b : Bench) (m : Machine) (fits : unfit b m ≡ 0) where
   unfolding swept emptied
   cleared =
       let o = parts b m fits .lists in
-      swept-changed emptiedNode clearing refl (emptied-means (m .store) (m .state .nodes) (lists-few b _ _ o)) (emptied-lists b _ _ o) emptied-ok
+      swept-changed emptiedNode clearing refl (emptied-means (m .store) (m .state .nodes)) (emptied-lists b _ _ o) emptied-ok
 
   -- 61
   pub restarted : Means b (machine (withNodes (m .state) (map resetNode (m .state .nodes))) (m .store) (m .memory)) (sweep resetting (meaning b m))
   unfolding swept emptied
   restarted =
       let o = parts b m fits .lists in
-      swept-changed resetNode resetting refl (reset-means (m .store) (m .state .nodes) (lists-few b _ _ o)) (reset-lists b _ _ o) reset-ok
+      swept-changed resetNode resetting refl (reset-means (m .store) (m .state .nodes)) (reset-lists b _ _ o) reset-ok

@@ -15,7 +15,7 @@ use Rattle.meaning.specs.Bench.{Bench, hub, isReader, isNode}
 use Rattle.meaning.specs.Gateway.{put}
 use Rattle.demands.specs.Sound.{Sound}
 use Rattle.state.specs.State.{freshReader, freshNode}
-use Rattle.state.specs.Machine.{Machine, meaning, seen, nodeSlot, nodesOf, readersOf, nodeOf, pendingOf, readerOf, regionOf, plain}
+use Rattle.state.specs.Machine.{Machine, meaning, seen, nodeSlot, nodesOf, readersOf, nodeOf, startsOf, pendingOf, readerOf, regionOf, plain}
 
 module _ {A : Type 0} (ok : ℕ → Bool) (slot : ℕ → ℕ) (d : A) (l : List A) where
   module _ (n : ℕ) (x : A) (is : ok n ≡ true) (inside : slot n < length l) (inj : (m : ℕ) → ok m ≡ true → slot m ≡ slot n → m ≡ n) where
@@ -103,5 +103,5 @@ module _ (b : Bench) (m : Machine) (n : ℕ) where
   reader-at r = ap (λ x. readerOf x (regionOf b (m .memory) n)) (yes-cond freshReader r)
 
   pub node-at : isNode b n ≡ true → meaning b m .nodes n ≡ nodeOf (m .store) (getD (m .state .nodes) (nodeSlot b n) freshNode)
-  unfolding meaning nodesOf seen nodeOf pendingOf
+  unfolding meaning nodesOf seen nodeOf startsOf pendingOf
   node-at p = yes-cond plain p ∙ List·getD-map (nodeOf (m .store)) (m .state .nodes) (nodeSlot b n) freshNode

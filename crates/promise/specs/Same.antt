@@ -2,26 +2,30 @@
 -- Assumes nothing.
 use Prim.Native.Nat.{ℕ}
 use mathlib.Core.Path.{_≡_}
+use mathlib.Core.Bool.{cond}
 use mathlib.Core.List.{List, map}
-use lib.ListN.{length, drop}
+use lib.Dec.{eqb}
+use lib.ListN.{length}
 use Rattle.state.specs.Machine.{Machine, pendingOf}
 use Rattle.state.specs.declared.node.Node.{Node}
 
--- a node but for the places of its answers
+-- a node but for the place of its answers
 pub record Known : Type 0 where
   pub instance : ℕ
   pub handover : ℕ
   pub count : ℕ
+  pub words : ℕ
   pub answers : List (List ℕ)
-  pub past : List ℕ  -- the places past its list
+  pub none : ℕ  -- the place where it has none
 
 unfoldable pub known : List ℕ → Node → Known
 known store n = record {
   instance = n .instance;
   handover = n .handover;
   count = n .list .count;
+  words = n .list .words .0;
   answers = pendingOf store (n .list);
-  past = drop (n .list .count) (n .list .places);
+  none = cond (eqb (n .list .count) 0) (n .list .place) 0;
 }
 
 pub record Alike (m n : Machine) : Type 0 where

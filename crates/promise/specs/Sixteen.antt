@@ -40,7 +40,7 @@ tagged = with (record { plaque = record { present = true; id = idA; length = rec
 
 -- node 1 with an answer of 6 words pending
 abbrev pub waiting : Machine
-waiting = with freshReader (record { instance = 1; handover = 1; list = record { count = 1; places = replicate 134 0 } })
+waiting = with freshReader (record { instance = 1; handover = 1; list = record { count = 1; place = 0; words = record { 0 = 6 } } })
     (0x0006 ∷ 0xAA08 ∷ 0x0001 ∷ 0x0101 ∷ 0x0000 ∷ 0x0000 ∷ replicate 4090 0)
 
 -- node 1 with six answers of 134 words each, 804 in all
@@ -48,7 +48,7 @@ abbrev pub longest : List ℕ
 longest = 0x0086 ∷ 0xAA05 ∷ 0x0001 ∷ 0x0101 ∷ 0x0000 ∷ 0x00FF ∷ replicate 128 0
 
 abbrev pub crowded : Machine
-crowded = with freshReader (record { instance = 6; handover = 1; list = record { count = 6; places = 0 ∷ 134 ∷ 268 ∷ 402 ∷ 536 ∷ 670 ∷ replicate 128 0 } })
+crowded = with freshReader (record { instance = 6; handover = 1; list = record { count = 6; place = 0; words = record { 0 = 804 } } })
     (longest ++ longest ++ longest ++ longest ++ longest ++ longest ++ replicate 3292 0)
 
 -- in the order of the numbers

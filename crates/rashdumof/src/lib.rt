@@ -4,8 +4,8 @@ use conversation::converse;
 use nightrun::Listed;
 use nightrun::list;
 ghost use mathlib.Core.Path.{_≡_};
-ghost use mathlib.Core.Bool.{cond};
-ghost use Prim.Native.Nat.{_*_};
+ghost use mathlib.Core.Bool.{true, cond};
+ghost use Prim.Native.Nat.{_*_, _≤_};
 ghost use lib.Dec.{leb};
 ghost use lib.ListN.{length};
 ghost use lib.Seq.{sets};
@@ -18,6 +18,7 @@ ghost use Rattle.dialog.specs.Dialog.{linesOf, conversation};
 pub extern "C" fn rashdumof_night(file: &[u8], out: &mut [u8]) -> usize
     ensures { λ r. ⌜ r ≡ cond (leb 2600000 (length (now (out .entry)))) (length (listing (now (file .entry)))) 18446744073709551615 ⌝ }
     ensures { λ _. ⌜ now (out .exit) ≡ cond (leb 2600000 (length (now (out .entry)))) (sets (now (out .entry)) 0 (listing (now (file .entry)))) (now (out .entry)) ⌝ }
+    ensures { λ _. ⌜ (leb 2600000 (length (now (out .entry))) ≡ true → length (listing (now (file .entry))) ≤ length (now (out .entry))) ⌝ }
 {
     match list(file, out) {
         Listed::Written(n) => n,
@@ -31,6 +32,7 @@ pub extern "C" fn rashdumof_night(file: &[u8], out: &mut [u8]) -> usize
 pub extern "C" fn rashdumof_console(input: &[u8], out: &mut [u8]) -> usize
     ensures { λ r. ⌜ r ≡ cond (leb (length (linesOf (now (input .entry))) * 691) (length (now (out .entry)))) (length (conversation (now (input .entry)))) 18446744073709551615 ⌝ }
     ensures { λ _. ⌜ now (out .exit) ≡ cond (leb (length (linesOf (now (input .entry))) * 691) (length (now (out .entry)))) (sets (now (out .entry)) 0 (conversation (now (input .entry)))) (now (out .entry)) ⌝ }
+    ensures { λ _. ⌜ (leb (length (linesOf (now (input .entry))) * 691) (length (now (out .entry))) ≡ true → length (conversation (now (input .entry))) ≤ length (now (out .entry))) ⌝ }
 {
     match converse(input, out) {
         Text::Written(n) => n,

@@ -23,6 +23,11 @@ module _ {A : Type 0} (P : A → Type 0) where
   all-by d [] f = tt
   all-by d (x ∷ xs) f = (f 0 (omega arith), all-by d xs (λ k h. f (suc k) (omega arith)))
 
+  pub all-at : (d : A) (xs : List A) → All P xs → (k : ℕ) → k < length xs → P (getD xs k d)
+  all-at d [] a k h = absurd (omega arith)
+  all-at d (x ∷ xs) a zero h = a .0
+  all-at d (x ∷ xs) a (suc k) h = all-at d xs (a .1) k (omega arith)
+
   pub all-of : (xs : List A) → ((x : A) → P x) → All P xs
   all-of [] f = tt
   all-of (x ∷ xs) f = (f x, all-of xs f)

@@ -4,7 +4,6 @@ pub mod Order
 pub mod Laid
 pub mod Runs
 pub mod Rooms
-pub mod Tops
 pub mod Joins
 pub mod Taken
 pub mod Swept

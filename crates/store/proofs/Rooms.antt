@@ -1,14 +1,14 @@
--- Held words and bounds: where an answer has room, it fits behind the others, its node has a place for it, and the bounds are met after it.
+-- Held words and bounds: where an answer has room, it fits beside the others, and the bounds are met after it.
 -- Assumes nothing.
 use Prim.Native.Nat.{ℕ, zero, suc, _+_, _*_, _≤_, _<_}
 use mathlib.Core.Path.{_≡_, refl, sym, ap, _∙_}
-use mathlib.Core.Bool.{true}
+use mathlib.Core.Bool.{true, cond}
 use mathlib.Core.List.{List, [], _∷_, map}
 use native.Mathlib.Omega.{arith}
-use lib.Dec.{leb}
-use lib.ListN.{length, getD, set, length-map, List·getD-map}
-use lib.Seq.{length-take-le}
-use borrow.Author.Tests.{leb-true, le-leb}
+use native.Mathlib.Numerals.{add-one}
+use lib.Dec.{leb, eqb}
+use lib.ListN.{length, getD, set, List·getD-map}
+use borrow.Author.Tests.{leb-true, le-leb, eqb-true, eq-eqb}
 use Rattle.units.specs.Count.{every}
 use Rattle.units.proofs.Choice.{and-true}
 use Rattle.meaning.specs.Bench.{Bench}
@@ -17,18 +17,17 @@ use Rattle.meaning.specs.Gateway as M
 use Rattle.meaning.specs.Gateway.{joined}
 use Rattle.meaning.specs.Room.{added, held}
 use Rattle.state.specs.State.{freshNode}
-use Rattle.state.specs.Machine.{pendingOf, nodeOf, plain}
-use Rattle.state.specs.Consistent.{nodeAt, most, fineLists, heldsOf, chargesOf, bounded}
+use Rattle.state.specs.Machine.{startsOf, pendingOf, nodeOf, plain}
+use Rattle.state.specs.Consistent.{fineLists, heldsOf, counted, chargesOf, bounded, listClear}
 use Rattle.state.specs.declared.node.Node.{Node}
-use Rattle.state.proofs.Formed.{formed-least, formed-says, added-append}
+use Rattle.state.proofs.Formed.{added-append, lies}
 use Rattle.state.proofs.Lists.{map-set, every-get}
-use Rattle.state.proofs.InOrder.{listAt}
-use Rattle.lists.specs.Room.{roomFor}
-use Rattle.lists.proofs.Charges.{held-at}
-use Rattle.store.specs.Layout.{allOf}
+use Rattle.state.proofs.Starts.{span, span-none, span-more, starts-at}
+use Rattle.state.proofs.InOrder.{listAt, fine-ok, fine-least, counted-is}
+use Rattle.lists.specs.Room.{wordsOf, roomFor}
+use Rattle.lists.proofs.Charges.{words-at, held-at}
+use Rattle.store.specs.Layout.{wordsIn, joinedAt, EachInside}
 use Rattle.store.proofs.Every.{both, every-set}
-use Rattle.store.proofs.Order.{Fines, fine-nodes}
-use Rattle.store.proofs.Runs.{Formeds, fine-formed}
 
 -- ---- held words, by the meaning
 pub helds-mean : (store : List ℕ) (ns : List Node) → heldsOf store ns ≡ map held (map (nodeOf store) ns)
@@ -36,17 +35,13 @@ unfolding heldsOf nodeOf
 helds-mean store [] = refl
 helds-mean store (n ∷ ns) = rw (helds-mean store ns)
 
-pub helds-same : (store store′ : List ℕ) (ns ns′ : List Node) → map (nodeOf store′) ns′ ≡ map (nodeOf store) ns
-    → heldsOf store′ ns′ ≡ heldsOf store ns
-helds-same store store′ ns ns′ e = helds-mean store′ ns′ ∙ ap (map held) e ∙ sym (helds-mean store ns)
-
 -- one node changed
 pub helds-set : (store store′ : List ℕ) (ns ns′ : List Node) (i : ℕ) (x : M.Node)
     → map (nodeOf store′) ns′ ≡ set (map (nodeOf store) ns) i x → heldsOf store′ ns′ ≡ set (heldsOf store ns) i (held x)
 helds-set store store′ ns ns′ i x e = helds-mean store′ ns′ ∙ ap (map held) e ∙ rw (map-set, ← helds-mean store ns)
 
 pub node-at : (store : List ℕ) (ns : List Node) (i : ℕ) → getD (map (nodeOf store) ns) i plain ≡ nodeOf store (getD ns i freshNode)
-unfolding nodeOf pendingOf
+unfolding nodeOf pendingOf startsOf
 node-at store ns i = List·getD-map (nodeOf store) ns i freshNode
 
 pub helds-joined : (store store′ a : List ℕ) (ns ns′ : List Node) (i : ℕ) → wordNo 1 a ≡ length a
@@ -59,30 +54,43 @@ helds-joined store store′ a ns ns′ i w e =
     let v : held (joined a x) ≡ getD (heldsOf store ns) i 0 + length a = added-append (x .pending) (a ∷ []) ∙ omega arith in
     helds-set store store′ ns ns′ i (joined a x) e ∙ ap (set (heldsOf store ns) i) v
 
+-- ---- the words that nodes count
+-- they are the held words: so each count is right
+pub counted-of : (store : List ℕ) (ns : List Node) → wordsOf ns ≡ heldsOf store ns → every (counted store) ns ≡ true
+unfolding every counted heldsOf
+counted-of store [] e = refl
+counted-of store (n ∷ ns) e =
+    let h : n .list .words .0 ≡ added (pendingOf store (n .list)) = cc in
+    let t : wordsOf ns ≡ heldsOf store ns = cc in
+    both (eq-eqb _ _ h) (counted-of store ns t)
+
+pub words-joined : (ns : List Node) (i to w : ℕ)
+    → wordsOf (set ns i (joinedAt (getD ns i freshNode) to w)) ≡ set (wordsOf ns) i (getD (wordsOf ns) i 0 + w)
+words-joined ns i to w =
+    map-set (λ n. n .list .words .0) ns i (joinedAt (getD ns i freshNode) to w)
+    ∙ ap (λ (v : ℕ). set (wordsOf ns) i (v + w)) (sym (words-at ns i))
+
 -- ---- sums and charges
 sum : List ℕ → ℕ
 sum [] = 0
 sum (h ∷ hs) = h + sum hs
 
-all-sum : (store : List ℕ) (ns : List Node) → added (allOf store ns) ≡ sum (heldsOf store ns)
-unfolding allOf heldsOf sum added
-all-sum store [] = refl
-all-sum store (n ∷ ns) =
-    let r : added (allOf store ns) ≡ sum (heldsOf store ns) = all-sum store ns in
-    added-append (pendingOf store (n .list)) (allOf store ns) ∙ omega arith
+words-sum : (ns : List Node) → wordsIn ns ≡ sum (wordsOf ns)
+unfolding wordsIn sum
+words-sum [] = refl
+words-sum (n ∷ ns) = ap (λ (s : ℕ). n .list .words .0 + s) (words-sum ns)
+
+sum-set : (hs : List ℕ) (i w : ℕ) → i < length hs → sum (set hs i (getD hs i 0 + w)) ≡ sum hs + w
+unfolding sum
+sum-set [] i w h = absurd (omega arith)
+sum-set (x ∷ hs) zero w h = omega arith
+sum-set (x ∷ hs) (suc i) w h = let r : sum (set hs i (getD hs i 0 + w)) ≡ sum hs + w = sum-set hs i w (omega arith) in omega arith
 
 module _ (share : ℕ) where
   sum-charges : (hs : List ℕ) → sum hs ≤ chargesOf share hs
   unfolding sum chargesOf
   sum-charges [] = omega arith
   sum-charges (h ∷ hs) = let r : sum hs ≤ chargesOf share hs = sum-charges hs in omega arith
-
-  more-charges : (hs : List ℕ) (i words : ℕ) → i < length hs → sum hs + words ≤ chargesOf share (set hs i (getD hs i 0 + words))
-  unfolding sum chargesOf
-  more-charges [] i words h = absurd (omega arith)
-  more-charges (x ∷ hs) zero words h = let r : sum hs ≤ chargesOf share hs = sum-charges hs in omega arith
-  more-charges (x ∷ hs) (suc i) words h =
-      let r : sum hs + words ≤ chargesOf share (set hs i (getD hs i 0 + words)) = more-charges hs i words (omega arith) in omega arith
 
   charges-less : (hs : List ℕ) (i v : ℕ) → v ≤ getD hs i 0 → chargesOf share (set hs i v) ≤ chargesOf share hs
   unfolding chargesOf
@@ -112,45 +120,59 @@ module _ (b : Bench) (hs : List ℕ) (i : ℕ) where
       both (every-set (λ h. leb h (b .limit)) hs i v (e .0) (le-leb v (b .limit) w)) (le-leb _ _ x)
 
 -- ---- room
-least : (b : Bench) (j : ℕ) (as' : List (List ℕ)) → Formeds b j as' → 6 * length as' ≤ added as'
-unfolding added
-least b j [] o = omega arith
-least b j (a ∷ r) o =
-    let s : 6 * length r ≤ added r = least b j r (o .1) in
-    let w : wordNo 1 a ≡ length a = formed-says b (nodeAt b j) a (o .0) in
-    omega (arith, formed-least b (nodeAt b j) a (o .0))
-
-fine-least : (b : Bench) (store : List ℕ) (j : ℕ) (ns : List Node) → Fines b store j ns → (i : ℕ) → i < length ns
-    → 6 * listAt ns i .count ≤ added (pendingOf store (listAt ns i))
-unfolding pendingOf
-fine-least b store j [] f i h = absurd (omega arith)
-fine-least b store j (n ∷ ns) f zero h =
-    let l : length (pendingOf store (n .list)) ≡ n .list .count =
-    rw length-map (length-take-le (n .list .count) (n .list .places) (omega (arith, f .0 .few, f .0 .wide))) in
-    omega (arith, least b j (pendingOf store (n .list)) (fine-formed b j store (n .list) (f .0)))
-fine-least b store j (n ∷ ns) f (suc i) h = fine-least b store (suc j) ns (f .1) i (omega arith)
-
-module _ (b : Bench) (store : List ℕ) (ns : List Node) (i words : ℕ) (h : i < length ns)
+module _ (b : Bench) (store : List ℕ) (ns : List Node) (i words : ℕ) (h : i < length ns) (c : every (counted store) ns ≡ true)
     (r : roomFor b (heldsOf store ns) i words ≡ true) where
-  own : added (pendingOf store (listAt ns i)) + words ≤ b .limit
+  room-parts : (listAt ns i .words .0 + words ≤ b .limit)
+      × (chargesOf (b .share) (set (wordsOf ns) i (getD (wordsOf ns) i 0 + words)) ≤ b .store)
   unfolding roomFor
-  own =
-      let hs : List ℕ = heldsOf store ns in
+  room-parts =
+      let hs : List ℕ = wordsOf ns in
       let v : ℕ = getD hs i 0 + words in
-      let t : v ≤ b .limit = leb-true _ _ (and-true (leb v (b .limit)) (leb (chargesOf (b .share) (set hs i v)) (b .store)) r .0) in
-      omega (arith, held-at store ns i)
+      let t : roomFor b hs i words ≡ true = rw (counted-is store ns c) r in
+      let q = and-true (leb v (b .limit)) (leb (chargesOf (b .share) (set hs i v)) (b .store)) t in
+      let l : v ≤ b .limit = leb-true _ _ (q .0) in
+      (omega (arith, words-at ns i), leb-true _ _ (q .1))
 
-  -- the words of all answers and of this one are at most the store's
-  pub room-fits : added (allOf store ns) + words ≤ b .store
-  unfolding roomFor heldsOf
-  room-fits =
-      let hs : List ℕ = heldsOf store ns in
-      let v : ℕ = getD hs i 0 + words in
-      let t : chargesOf (b .share) (set hs i v) ≤ b .store =
-      leb-true _ _ (and-true (leb v (b .limit)) (leb (chargesOf (b .share) (set hs i v)) (b .store)) r .1) in
-      let l : i < length hs = rw length-map h in
-      omega (arith, more-charges (b .share) hs i words l, all-sum store ns)
+  -- with this one its node holds at most what a node may hold
+  pub room-own : listAt ns i .words .0 + words ≤ b .limit
+  room-own = room-parts .0
+
+  -- the words of all lists, this answer joined, are at most the store's
+  pub room-fits : (to : ℕ) → wordsIn (set ns i (joinedAt (getD ns i freshNode) to words)) ≤ b .store
+  room-fits to =
+      let hs : List ℕ = set (wordsOf ns) i (getD (wordsOf ns) i 0 + words) in
+      let e = words-sum (set ns i (joinedAt (getD ns i freshNode) to words)) ∙ ap sum (words-joined ns i to words) in
+      omega (arith, e, sum-charges (b .share) hs, room-parts .1)
 
   -- its node's list is not full, since every answer has six words
-  pub room-place : fineLists b store ns ≡ true → b .limit ≤ 6 * most → 6 ≤ words → listAt ns i .count < most
-  room-place f m k = omega (arith, own, fine-least b store 0 ns (fine-nodes b store ns f) i h)
+  pub room-place : fineLists b store ns ≡ true → b .limit ≤ 6 * 134 → 6 ≤ words → listAt ns i .count < 134
+  unfolding counted
+  room-place f m k =
+      let e : listAt ns i .words .0 ≡ added (pendingOf store (listAt ns i)) =
+      eqb-true _ _ (every-get (counted store) ns i freshNode c h) in
+      omega (arith, room-own, fine-least b store ns f i h)
+
+-- ---- lists in order lie inside the store
+span-end : (store : List ℕ) (k p : ℕ) → (k ≡ 0 → p ≡ 0)
+    → ((m : ℕ) → m < k → getD (startsOf store k p) m 0 + getD store (getD (startsOf store k p) m 0) 0 ≤ length store)
+    → p + span store k p ≤ length store
+span-end store zero p z f = omega (arith, span-none store p, z refl)
+span-end store (suc k) p z f =
+    let e : getD (startsOf store (suc k) p) k 0 ≡ p + span store k p = starts-at store (suc k) p k (omega arith) in
+    let g : p + span store k p + getD store (p + span store k p) 0 ≤ length store = rw e at (f k (omega arith)) in
+    let s : span store (suc k) p ≡ span store k p + getD store (p + span store k p) 0 = rw add-one at (span-more store k p) in
+    omega arith
+
+clear-place : (k p : ℕ) → cond (eqb k 0) (eqb p 0) true ≡ true → k ≡ 0 → p ≡ 0
+clear-place k p c z = eqb-true p 0 (rw z at c)
+
+pub each-inside : (b : Bench) (store : List ℕ) (ns : List Node) → fineLists b store ns ≡ true → every (counted store) ns ≡ true
+    → every listClear ns ≡ true → EachInside (length store) ns
+unfolding counted listClear pendingOf
+each-inside b store ns f c z j h =
+    let l = listAt ns j in
+    let e : l .words .0 ≡ span store (l .count) (l .place) = eqb-true _ _ (every-get (counted store) ns j freshNode c h) in
+    let s : l .place + span store (l .count) (l .place) ≤ length store =
+    span-end store (l .count) (l .place) (clear-place (l .count) (l .place) (every-get listClear ns j freshNode z h))
+    (λ m q. lies b store j _ (fine-ok b store ns f j h m q) .inside) in
+    omega arith

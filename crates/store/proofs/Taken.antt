@@ -2,63 +2,84 @@
 -- Assumes nothing.
 use Prim.Native.Nat.{ℕ, suc, _+_, _-_, _≤_, _<_}
 use mathlib.Core.Path.{_≡_, refl, sym, ap, _∙_}
-use mathlib.Core.Bool.{Bool, true}
+use mathlib.Core.Bool.{Bool, true, false, cond}
 use mathlib.Core.List.{List, [], _∷_, _++_, map}
 use native.Mathlib.Omega.{arith}
 use lib.Dec.{eqb}
-use lib.ListN.{length, take, drop, getD, set, length-append, length-drop, length-map}
-use lib.Seq.{take-append-le, drop-append-le, drop-drop, set-getD}
-use Rattle.units.specs.Count.{every}
+use lib.ListN.{length, take, drop, getD, set, length-map}
+use lib.Seq.{set-getD}
+use borrow.Author.Tests.{eqb-true, eqb-false, eq-eqb, ne-eqb}
 use Rattle.meaning.specs.Bench.{Bench}
 use Rattle.meaning.specs.Gateway as M
 use Rattle.meaning.specs.Gateway.{onward, taken}
 use Rattle.meaning.specs.Room.{added, held}
-use Rattle.state.specs.State.{freshNode}
-use Rattle.state.specs.Machine.{placesOf, pendingOf, nodeOf, plain}
-use Rattle.state.specs.Consistent.{most, spots, inOrder, few, fineLists, heldsOf, bounded, tailClear, listsOk}
+use Rattle.state.specs.State.{noAnswers, freshNode, takenList}
+use Rattle.state.specs.Machine.{answerAt, startsOf, placesOf, pendingOf, nodeOf, plain}
+use Rattle.state.specs.Consistent.{spots, inOrder, fineLists, heldsOf, counted, bounded, listClear, listsOk}
+use Rattle.state.specs.declared.node.Pending.{Pending}
 use Rattle.state.specs.declared.node.Node.{Node}
 use Rattle.state.proofs.Lists.{map-set, every-get}
-use Rattle.state.proofs.InOrder.{listAt, few-at, fine-few}
+use Rattle.state.proofs.Starts.{span, span-tail}
+use Rattle.state.proofs.InOrder.{listAt}
 use Rattle.lists.proofs.Charges.{held-at}
-use Rattle.store.proofs.Every.{all-every, every-all, all-append, every-set}
-use Rattle.store.proofs.Order.{order-remove, spots-at, few-set, fine-order, fine-of, lists-parts, lists-of}
+use Rattle.store.proofs.Every.{every-set}
+use Rattle.store.proofs.Order.{order-remove, spots-at, fine-order, fine-of, lists-parts, lists-of}
 use Rattle.store.proofs.Rooms.{helds-set, node-at, less-bounded}
 
 -- a node without its oldest answer
-abbrev pub takenNode : Node → Node
-takenNode n = record {
+abbrev pub takenNode : List ℕ → Node → Node
+takenNode store n = record {
   instance = n .instance;
   handover = onward (n .handover);
-  list = record { count = n .list .count - 1; places = drop 1 (n .list .places) ++ (0 ∷ []) };
+  list = takenList (n .list) (getD store (n .list .place) 0);
 }
 
 -- ---- the node
-less-places : (ps : List ℕ) (k : ℕ) → k < length ps → take (suc k) ps ≡ getD ps 0 0 ∷ take k (drop 1 ps ++ (0 ∷ []))
-less-places [] k h = absurd (omega arith)
-less-places (x ∷ ps) k h = rw (take-append-le k ps (0 ∷ []) (omega arith))
+-- a list without its oldest answer, where that is the only one or not
+abbrev rest : List ℕ → Pending → Bool → Pending
+rest store l t =
+    let w = getD store (l .place) 0 in
+    cond t noAnswers (record { count = l .count - 1; place = l .place + w; words = record { 0 = l .words .0 - w } })
 
-module _ (n : Node) (some : 0 < n .list .count) (few : n .list .count ≤ length (n .list .places)) where
-  pub taken-places : placesOf (n .list) ≡ getD (n .list .places) 0 0 ∷ placesOf (takenNode n .list)
-  taken-places =
-      let s : suc (n .list .count - 1) ≡ n .list .count = omega arith in
-      ap (λ (k : ℕ). take k (n .list .places)) (sym s) ∙ less-places (n .list .places) (n .list .count - 1) (omega arith)
+module _ (store : List ℕ) (l : Pending) (some : 0 < l .count) where
+  less : suc (l .count - 1) ≡ l .count
+  less = omega arith
 
-  pub taken-node : (store : List ℕ) → nodeOf store (takenNode n) ≡ taken (nodeOf store n)
+  rest-places : (t : Bool) → eqb (l .count) 1 ≡ t → placesOf store l ≡ l .place ∷ placesOf store (rest store l t)
+  unfolding startsOf
+  rest-places true e = let z : l .count ≡ 1 = eqb-true _ _ e in ap (λ (k : ℕ). startsOf store k (l .place)) z
+  rest-places false e = ap (λ (k : ℕ). startsOf store k (l .place)) (sym less)
+
+  rest-words : (t : Bool) → l .words .0 ≡ span store (l .count) (l .place)
+      → rest store l t .words .0 ≡ added (map (answerAt store) (placesOf store (rest store l t)))
+  unfolding startsOf added
+  rest-words true c = refl
+  rest-words false c =
+      let s : span store (suc (l .count - 1)) (l .place) ≡ span store (l .count) (l .place) = ap (λ (k : ℕ). span store k (l .place)) less in
+      omega (arith, s, span-tail store (l .count - 1) (l .place))
+
+  rest-clear : (t : Bool) → eqb (l .count) 1 ≡ t → cond (eqb (rest store l t .count) 0) (eqb (rest store l t .place) 0) true ≡ true
+  rest-clear true e = refl
+  rest-clear false e =
+      let d : l .count ≡ 1 → ⊥ = eqb-false _ _ e in
+      let z : eqb (l .count - 1) 0 ≡ false = ne-eqb (l .count - 1) 0 (λ q. d (omega arith)) in
+      rw z
+
+module _ (store : List ℕ) (n : Node) (some : 0 < n .list .count) where
+  pub taken-places : placesOf store (n .list) ≡ n .list .place ∷ placesOf store (takenNode store n .list)
+  taken-places = rest-places store (n .list) some (eqb (n .list .count) 1) refl
+
+  pub taken-node : nodeOf store (takenNode store n) ≡ taken (nodeOf store n)
   unfolding nodeOf pendingOf taken
-  taken-node store = rw taken-places
+  taken-node = rw taken-places
 
-  taken-tail : tailClear n ≡ true → tailClear (takenNode n) ≡ true
-  unfolding tailClear every
-  taken-tail t =
-      let ps : List ℕ = n .list .places in
-      let k : ℕ = n .list .count - 1 in
-      let s : 1 + k ≡ n .list .count = omega arith in
-      let l : k ≤ length (drop 1 ps) = rw length-drop (omega arith) in
-      let d : drop k (drop 1 ps ++ (0 ∷ [])) ≡ drop (n .list .count) ps ++ (0 ∷ []) =
-      drop-append-le k (drop 1 ps) (0 ∷ []) l ∙ rw (drop-drop, s) in
-      let z : ℕ → Bool = λ x. eqb x 0 in
-      rw d (all-every z (drop (n .list .count) ps ++ (0 ∷ []))
-      (all-append (λ x. z x ≡ true) (drop (n .list .count) ps) (0 ∷ []) (every-all z (drop (n .list .count) ps) t) (refl, tt)))
+  taken-counted : counted store n ≡ true → counted store (takenNode store n) ≡ true
+  unfolding counted pendingOf
+  taken-counted c = eq-eqb _ _ (rest-words store (n .list) some (eqb (n .list .count) 1) (eqb-true _ _ c))
+
+  taken-clear : listClear (takenNode store n) ≡ true
+  unfolding listClear
+  taken-clear = rest-clear store (n .list) some (eqb (n .list .count) 1) refl
 
 added-less : (xs : List (List ℕ)) → added (drop 1 xs) ≤ added xs
 unfolding added
@@ -66,45 +87,37 @@ added-less [] = omega arith
 added-less (x ∷ xs) = omega arith
 
 -- ---- all nodes
-abbrev pub takenIn : List Node → ℕ → List Node
-takenIn ns i = set ns i (takenNode (getD ns i freshNode))
+abbrev pub takenIn : List ℕ → List Node → ℕ → List Node
+takenIn store ns i = set ns i (takenNode store (getD ns i freshNode))
 
 module _ (store : List ℕ) (ns : List Node) (i : ℕ) (h : i < length ns) (some : 0 < listAt ns i .count) where
-  pub taken-means : few ns ≡ true
-      → map (nodeOf store) (takenIn ns i) ≡ set (map (nodeOf store) ns) i (taken (getD (map (nodeOf store) ns) i plain))
-  taken-means f =
-      let p = few-at ns f i h in
-      let e = taken-node (getD ns i freshNode) some (omega arith) store in
-      map-set (nodeOf store) ns i (takenNode (getD ns i freshNode))
-      ∙ ap (set (map (nodeOf store) ns) i) (e ∙ ap taken (sym (node-at store ns i)))
+  pub taken-means : map (nodeOf store) (takenIn store ns i) ≡ set (map (nodeOf store) ns) i (taken (getD (map (nodeOf store) ns) i plain))
+  taken-means =
+      map-set (nodeOf store) ns i (takenNode store (getD ns i freshNode))
+      ∙ ap (set (map (nodeOf store) ns) i) (taken-node store (getD ns i freshNode) some ∙ ap taken (sym (node-at store ns i)))
 
-  taken-fine : (b : Bench) → fineLists b store ns ≡ true → fineLists b store (takenIn ns i) ≡ true
+  taken-fine : (b : Bench) → fineLists b store ns ≡ true → fineLists b store (takenIn store ns i) ≡ true
   taken-fine b f =
       let n : Node = getD ns i freshNode in
-      let p = few-at ns (fine-few b store ns f) i h in
-      let l : length (drop 1 (n .list .places) ++ (0 ∷ [])) ≡ most = simp (length-append, length-drop) (omega arith) in
-      let a : List (ℕ × ℕ) = spots 0 (take i ns) in
-      let ys : List (ℕ × ℕ) = map (λ q. (i, q)) (placesOf (takenNode n .list)) ++ spots (suc i) (drop (suc i) ns) in
-      let s : spots 0 ns ≡ a ++ ((i, getD (n .list .places) 0 0) ∷ ys) =
-      ap (spots 0) (sym (set-getD ns i freshNode)) ∙ spots-at ns i n h ∙ rw (taken-places n some (omega arith)) in
-      let t : spots 0 (takenIn ns i) ≡ a ++ ys = spots-at ns i (takenNode n) h in
-      let o : inOrder b store [] (a ++ ((i, getD (n .list .places) 0 0) ∷ ys)) ≡ true = rw s at (fine-order b store ns f) in
-      let g : inOrder b store [] (spots 0 (takenIn ns i)) ≡ true = rw t (order-remove b store [] a ys (i, getD (n .list .places) 0 0) o) in
-      fine-of b store (takenIn ns i) (few-set ns i (takenNode n) (fine-few b store ns f) (omega arith) l) g
+      let a : List (ℕ × ℕ) = spots store 0 (take i ns) in
+      let ys : List (ℕ × ℕ) = map (λ q. (i, q)) (placesOf store (takenNode store n .list)) ++ spots store (suc i) (drop (suc i) ns) in
+      let s : spots store 0 ns ≡ a ++ ((i, n .list .place) ∷ ys) =
+      ap (spots store 0) (sym (set-getD ns i freshNode)) ∙ spots-at store ns i n h ∙ rw (taken-places store n some) in
+      let t : spots store 0 (takenIn store ns i) ≡ a ++ ys = spots-at store ns i (takenNode store n) h in
+      let o : inOrder b store [] (a ++ ((i, n .list .place) ∷ ys)) ≡ true = rw s at (fine-order b store ns f) in
+      fine-of b store (takenIn store ns i) (rw t (order-remove b store [] a ys (i, n .list .place) o))
 
-  pub taken-lists : (b : Bench) → listsOk b store ns ≡ true → listsOk b store (takenIn ns i) ≡ true
+  pub taken-lists : (b : Bench) → listsOk b store ns ≡ true → listsOk b store (takenIn store ns i) ≡ true
   unfolding heldsOf taken nodeOf
   taken-lists b o =
       let p = lists-parts b store ns o in
-      let f = fine-few b store ns (p .0) in
-      let w = few-at ns f i h in
+      let n : Node = getD ns i freshNode in
       let x : M.Node = getD (map (nodeOf store) ns) i plain in
       let k : held x ≡ getD (heldsOf store ns) i 0 = ap held (node-at store ns i) ∙ sym (held-at store ns i) in
       let v : held (taken x) ≤ getD (heldsOf store ns) i 0 = omega (arith, added-less (x .pending)) in
-      let e = helds-set store store ns (takenIn ns i) i (taken x) (taken-means f) in
+      let e = helds-set store store ns (takenIn store ns i) i (taken x) taken-means in
       let l : i < length (heldsOf store ns) = rw length-map h in
-      let c : bounded b (heldsOf store (takenIn ns i)) ≡ true = rw e (less-bounded b (heldsOf store ns) i (held (taken x)) l v (p .1)) in
-      let t : every tailClear (takenIn ns i) ≡ true =
-      every-set tailClear ns i (takenNode (getD ns i freshNode)) (p .2)
-      (taken-tail (getD ns i freshNode) some (omega arith) (every-get tailClear ns i freshNode (p .2) h)) in
-      lists-of b store (takenIn ns i) (taken-fine b (p .0)) c t
+      let c : bounded b (heldsOf store (takenIn store ns i)) ≡ true = rw e (less-bounded b (heldsOf store ns) i (held (taken x)) l v (p .2)) in
+      lists-of b store (takenIn store ns i) (taken-fine b (p .0))
+      (every-set (counted store) ns i (takenNode store n) (p .1) (taken-counted store n some (every-get (counted store) ns i freshNode (p .1) h))) c
+      (every-set listClear ns i (takenNode store n) (p .3) (taken-clear store n some))

@@ -1,24 +1,21 @@
 // The answer store, changed: an answer joins its node's list, and all lists are emptied.
 use lists::room::has_room;
-use lists::room::length_at;
 use state::State;
 use state::node::Node;
 use state::node::Pending;
 use units::Words;
 ghost use mathlib.Core.Path.{_≡_};
 ghost use mathlib.Core.Bool.{true, false};
-ghost use mathlib.Core.List.{map};
-ghost use Prim.Native.Nat.{_+_, _≤_, _<_};
+ghost use mathlib.Core.List.{_++_, map};
+ghost use Prim.Native.Nat.{_+_, _*_, _≤_, _<_};
 ghost use lib.ListN.{length, getD, set};
 ghost use Rattle.meaning.specs.Bench.{full};
-ghost use Rattle.meaning.specs.Room.{added};
 ghost use Rattle.meaning.specs.Response.{wellFormed};
 ghost use Rattle.state.specs.State.{freshNode, emptiedNode, resetNode};
-ghost use Rattle.state.specs.Machine.{pendingOf};
-ghost use Rattle.state.specs.Consistent.{nodeAt, few, heldsOf, listsOk};
+ghost use Rattle.state.specs.Consistent.{nodeAt, heldsOf, listsOk};
 ghost use Rattle.lists.specs.Room.{roomFor};
-ghost use Rattle.store.specs.Layout.{putIn, laid, moved, allOf, packedFrom, topOf, topsOf, withNodes, joinedAt, Kept, EachKept};
-ghost use Rattle.store.specs.Joined.{Added, Joinable, Queue};
+ghost use Rattle.store.specs.Layout.{putIn, withNodes, joinedAt, nextPlace, freeOf, runOf, runsOf, packedFrom, wordsIn, EachInside};
+ghost use Rattle.store.specs.Joined.{Joinable, Joins, Queue};
 
 // Copies all of src into dst from a place on.
 pub fn copy_in(src: &[u16], dst: &mut [u16], to: usize)
@@ -33,131 +30,128 @@ pub fn copy_in(src: &[u16], dst: &mut [u16], to: usize)
     }
 }
 
-// The first place past all the answers of a list, or `least` where that is further on.
-fn top_of(list: Pending, store: &[u16], least: usize) -> usize
-    requires { ⌜ list .count ≤ 134 ⌝ }
-    ensures { λ r. ⌜ r ≡ topOf (now (store .entry)) list least ⌝ }
+// Each node has a part of the store of its own, where its first answer goes as long as that is free.
+const OWN: usize = 240;
+
+fn next_place(list: Pending, i: usize) -> usize
+    requires { ⌜ (i < 17) × (list .place + list .words .0 ≤ 4096) ⌝ }
+    ensures { λ r. ⌜ r ≡ nextPlace (i * 240) list ⌝ }
 {
-    let count = list.count;
-    let mut top = least;
+    if list.count == 0 {
+        return i * OWN;
+    }
+    list.place + list.words.0
+}
+
+// Whether no list has one of so many words from a place on.
+fn is_free(nodes: [Node; 17], to: usize, words: Words) -> bool
+    requires { ⌜ EachInside 4096 nodes × (to ≤ 4096) × (words .0 ≤ 134) ⌝ }
+    ensures { λ r. ⌜ r ≡ freeOf nodes to (words .0) ⌝ }
+{
+    let past = to + words.0;
     let mut k: usize = 0;
-    while k < count {
-        let place = list.places[k] as usize;
-        let end = place + length_at(store, place).0;
-        if top < end {
-            top = end;
+    while k < 17 {
+        let n = nodes[k];
+        let list = n.list;
+        if to < list.place + list.words.0 && list.place < past {
+            return false;
         }
         k += 1;
     }
-    top
+    true
 }
 
-// The first place past all pending answers.
-fn top(s: State, store: &[u16]) -> usize
-    requires { ⌜ few (s .nodes) ≡ true ⌝ }
-    ensures { λ r. ⌜ r ≡ topsOf (now (store .entry)) (s .nodes) 0 ⌝ }
+// Copies the words of a list, and more words behind them, into out from a place on; the result is the place after them.
+fn lay(list: Pending, more: &[u16], store: &[u16], out: &mut [u16], to: usize) -> usize
+    requires { ⌜ (list .place + list .words .0 ≤ length (now store)) × (to + list .words .0 + length (now more) ≤ length (now out)) ⌝ }
+    ensures { λ r. ⌜ (r ≡ to + list .words .0 + length (now (more .entry))) × (now (out .exit) ≡ putIn (now (out .entry)) to (runOf (now (store .entry)) list ++ now (more .entry))) ⌝ }
 {
-    let mut past: usize = 0;
-    let mut i: usize = 0;
-    while i < 17 {
-        let n = s.nodes[i];
-        let list = n.list;
-        past = top_of(list, store, past);
-        i += 1;
-    }
-    past
+    let from = list.place;
+    let end = from + list.words.0;
+    copy_in(&store[from..end], out, to);
+    let behind = to + list.words.0;
+    copy_in(more, out, behind);
+    behind + more.len()
 }
 
-struct Moved {
-    list: Pending,
-    end: usize,
-}
-
-// Copies a list's answers one after the other into out from a place on.
-fn pack_list(list: Pending, store: &[u16], out: &mut [u16], to: usize) -> Moved
-    requires { ⌜ Kept (now store) list × (to + added (pendingOf (now store) list) ≤ length (now out)) × (length (now out) ≤ 4096) ⌝ }
-    ensures { λ r. ⌜ (r .list ≡ moved (now (store .entry)) to list) × (r .end ≡ to + added (pendingOf (now (store .entry)) list)) × (now (out .exit) ≡ putIn (now (out .entry)) to (laid (pendingOf (now (store .entry)) list))) ⌝ }
+// Copies the words of all lists, node by node, to the front of out, the answer behind those of its node.
+fn lay_all(nodes: [Node; 17], i: usize, answer: &[u16], store: &[u16], out: &mut [u16])
+    requires { ⌜ (i < 17) × EachInside (length (now store)) nodes × (length (runsOf (now store) i (now answer) 0 nodes) ≤ length (now out)) ⌝ }
+    ensures { λ _. ⌜ now (out .exit) ≡ putIn (now (out .entry)) 0 (runsOf (now (store .entry)) i (now (answer .entry)) 0 nodes) ⌝ }
 {
-    let mut m = list;
-    let mut end = to;
+    let mut to: usize = 0;
     let mut k: usize = 0;
-    let count = list.count;
-    while k < count {
-        let place = list.places[k] as usize;
-        let past = place + store[place] as usize;
-        copy_in(&store[place..past], out, end);
-        m.places[k] = end as u16;
-        end += past - place;
+    while k < 17 {
+        let n = nodes[k];
+        let list = n.list;
+        let mut more: usize = 0;
+        if k == i {
+            more = answer.len();
+        }
+        to = lay(list, &answer[..more], store, out, to);
         k += 1;
     }
-    Moved { list: m, end }
 }
 
-struct Packed {
-    state: State,
-    end: usize,
-}
-
-// Copies all answers one after the other, node by node, to the front of out.
-fn pack(s: State, store: &[u16], out: &mut [u16]) -> Packed
-    requires { ⌜ EachKept (now store) (s .nodes) × (added (allOf (now store) (s .nodes)) ≤ length (now out)) × (length (now out) ≤ 4096) ⌝ }
-    ensures { λ r. ⌜ (r .state ≡ withNodes s (packedFrom (now (store .entry)) 0 (s .nodes))) × (r .end ≡ added (allOf (now (store .entry)) (s .nodes))) × (now (out .exit) ≡ putIn (now (out .entry)) 0 (laid (allOf (now (store .entry)) (s .nodes)))) ⌝ }
+// The nodes, whose words lie one after the other.
+fn packed(nodes: [Node; 17]) -> [Node; 17]
+    requires { ⌜ wordsIn nodes ≤ 4096 ⌝ }
+    ensures { λ r. ⌜ r ≡ packedFrom 0 nodes ⌝ }
 {
-    let mut t = s;
+    let mut ns = nodes;
     let mut to: usize = 0;
-    let mut i: usize = 0;
-    while i < 17 {
-        let n = s.nodes[i];
+    let mut k: usize = 0;
+    while k < 17 {
+        let n = nodes[k];
         let list = n.list;
-        let p = pack_list(list, store, out, to);
-        let m = p.list;
-        t.nodes[i] = Node {
-            instance: n.instance,
-            handover: n.handover,
-            list: m,
-        };
-        to = p.end;
-        i += 1;
+        let m = n.moved(to);
+        ns[k] = m;
+        to += list.words.0;
+        k += 1;
     }
-    Packed { state: t, end: to }
+    ns
 }
 
-// Puts an answer at a free place of the store and at the end of a node's list.
-fn put(s: State, i: usize, answer: &[u16], store: &mut [u16], to: usize) -> State
-    requires { ⌜ (i < 17) × (getD (s .nodes) i freshNode .list .count < 134) × (to + length (now answer) ≤ length (now store)) × (length (now store) ≤ 4096) ⌝ }
-    ensures { λ r. ⌜ (r ≡ withNodes s (set (s .nodes) i (joinedAt (getD (s .nodes) i freshNode) to))) × (now (store .exit) ≡ putIn (now (store .entry)) to (now (answer .entry))) ⌝ }
+// Puts an answer at a place of the store and at the end of a node's list.
+fn put(nodes: [Node; 17], i: usize, answer: &[u16], store: &mut [u16], to: usize) -> [Node; 17]
+    requires { ⌜ (i < 17) × (getD nodes i freshNode .list .count < 134) × (getD nodes i freshNode .list .words .0 + length (now answer) ≤ 4096) × (to + length (now answer) ≤ length (now store)) ⌝ }
+    ensures { λ r. ⌜ (r ≡ set nodes i (joinedAt (getD nodes i freshNode) to (length (now (answer .entry))))) × (now (store .exit) ≡ putIn (now (store .entry)) to (now (answer .entry))) ⌝ }
 {
     copy_in(answer, store, to);
-    let mut t = s;
-    let n = t.nodes[i];
-    let m = n.joined(to as u16);
-    t.nodes[i] = m;
-    t
+    let mut ns = nodes;
+    let n = nodes[i];
+    let m = n.joined(to, Words(answer.len()));
+    ns[i] = m;
+    ns
 }
 
-// The answers are laid one after the other, so that what is free is in one piece, and the answer is put behind them.
-fn repack(s: State, i: usize, answer: &[u16], store: &mut [u16]) -> State
-    requires { ⌜ Joinable full (now store) s i (now answer) ⌝ }
-    ensures { λ r. ⌜ Added full (now (store .entry)) (now (store .exit)) s r i (now (answer .entry)) ⌝ }
+// All answers are laid one after the other, so that none is in the way, and the new one with them.
+fn repack(nodes: [Node; 17], i: usize, answer: &[u16], store: &mut [u16]) -> [Node; 17]
+    requires { ⌜ Joinable full (now store) nodes i (now answer) ⌝ }
+    ensures { λ r. ⌜ Joins full (now (store .entry)) (now (store .exit)) nodes r i (now (answer .entry)) ⌝ }
 {
     let mut out = [0u16; 4096];
-    let p = pack(s, store, &mut out);
+    lay_all(nodes, i, answer, store, &mut out);
     copy_in(&out, store, 0);
-    let t = p.state;
-    let end = p.end;
-    put(t, i, answer, store, end)
+    let mut ns = nodes;
+    let n = nodes[i];
+    let m = n.joined(0, Words(answer.len()));
+    ns[i] = m;
+    packed(ns)
 }
 
 // Adds an answer that has room. Gaps in the store never refuse it.
-fn append(s: State, i: usize, answer: &[u16], store: &mut [u16]) -> State
-    requires { ⌜ Joinable full (now store) s i (now answer) ⌝ }
-    ensures { λ r. ⌜ Added full (now (store .entry)) (now (store .exit)) s r i (now (answer .entry)) ⌝ }
+fn append(nodes: [Node; 17], i: usize, answer: &[u16], store: &mut [u16]) -> [Node; 17]
+    requires { ⌜ Joinable full (now store) nodes i (now answer) ⌝ }
+    ensures { λ r. ⌜ Joins full (now (store .entry)) (now (store .exit)) nodes r i (now (answer .entry)) ⌝ }
 {
-    let to = top(s, store);
-    if to + answer.len() <= Words::STORE {
-        return put(s, i, answer, store, to);
+    let n = nodes[i];
+    let list = n.list;
+    let to = next_place(list, i);
+    if to + answer.len() <= Words::STORE && is_free(nodes, to, Words(answer.len())) {
+        return put(nodes, i, answer, store, to);
     }
-    repack(s, i, answer, store)
+    repack(nodes, i, answer, store)
 }
 
 pub struct Queued {
@@ -170,14 +164,17 @@ pub fn queue(s: State, i: usize, answer: &[u16], store: &mut [u16]) -> Queued
     requires { ⌜ (length (now store) ≡ 4096) × (listsOk full (now store) (s .nodes) ≡ true) × (i < 17) × (wellFormed full (nodeAt full i) (now answer) ≡ true) ⌝ }
     ensures { λ r. ⌜ (r .ok ≡ roomFor full (heldsOf (now (store .entry)) (s .nodes)) i (length (now (answer .entry)))) × Queue full (r .ok) (now (store .entry)) (now (store .exit)) s (r .state) i (now (answer .entry)) ⌝ }
 {
-    if has_room(s, store, i, Words(answer.len())) {
-        let t = append(s, i, answer, store);
-        return Queued { ok: true, state: t };
+    let nodes = s.nodes;
+    if !has_room(nodes, i, Words(answer.len())) {
+        return Queued {
+            ok: false,
+            state: s,
+        };
     }
-    Queued {
-        ok: false,
-        state: s,
-    }
+    let ns = append(nodes, i, answer, store);
+    let mut t = s;
+    t.nodes = ns;
+    Queued { ok: true, state: t }
 }
 
 // 79: every list is emptied.

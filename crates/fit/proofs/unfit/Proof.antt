@@ -29,13 +29,13 @@ sized c =
     yes-and (eq-eqb _ _ x) ∙ yes-and (eq-eqb _ _ r) ∙ eq-eqb _ _ n
 
 -- a test that was passed
-lists : (c : tie.Else3) → listsOk full (c .before .before .before .before .before .before .args .store .now) (c .before .before .before .before .before .before .args .s .nodes) ≡ true
+lists : (c : tie.Else3) → listsOk full (c .before .before .before .before .before .before .before .args .store .now) (c .before .before .before .before .before .before .before .args .s .nodes) ≡ true
 lists c = sym (c .before .lists-ok .ensures) ∙ not-false _ (c .if3 .left)
 
-nodes : (c : tie.Else4) → every nodeOk (c .before .before .before .before .before .before .before .before .args .s .nodes) ≡ true
+nodes : (c : tie.Else4) → every nodeOk (c .before .before .before .before .before .before .before .before .before .args .s .nodes) ≡ true
 nodes c = sym (c .before .nodes-ok .ensures) ∙ not-false _ (c .if4 .left)
 
-readers : (c : tie.Else5) → every (readerOk full) (c .before .before .before .before .before .before .before .before .before .before .args .s .readers) ≡ true
+readers : (c : tie.Else5) → every (readerOk full) (c .before .before .before .before .before .before .before .before .before .before .before .args .s .readers) ≡ true
 readers c = sym (c .before .readers-ok .ensures) ∙ not-false _ (c .if5 .left)
 
 returns : tie.Need-returns
@@ -52,7 +52,7 @@ lists-ok-requires c κs = search needs
 returns-3 : tie.Need-returns-3
 unfolding consistent
 returns-3 c =
-    sym (long (c .before .before)
+    sym (long (c .before .before .before)
     ∙ this 2 (ap not (no-and _ (sym (c .before .lists-ok .ensures) ∙ not-true _ (c .if3 .taken)))))
 
 nodes-ok-requires : tie.Need-nodes-ok-requires
@@ -61,7 +61,7 @@ nodes-ok-requires c κs = search needs
 returns-4 : tie.Need-returns-4
 unfolding consistent
 returns-4 c =
-    sym (long (c .before .before .before .before)
+    sym (long (c .before .before .before .before .before)
     ∙ this 2 (ap not (yes-and (lists (c .before .before)) ∙ no-and _ (sym (c .before .nodes-ok .ensures) ∙ not-true _ (c .if4 .taken)))))
 
 readers-ok-requires : tie.Need-readers-ok-requires
@@ -70,7 +70,7 @@ readers-ok-requires c κs = search needs
 returns-5 : tie.Need-returns-5
 unfolding consistent
 returns-5 c =
-    sym (long (c .before .before .before .before .before .before)
+    sym (long (c .before .before .before .before .before .before .before)
     ∙ this 2 (ap not (yes-and (lists (c .before .before .before .before)) ∙ yes-and (nodes (c .before .before)) ∙ no-and _ (sym (c .before .readers-ok .ensures) ∙ not-true _ (c .if5 .taken)))))
 
 name-ok-requires : tie.Need-name-ok-requires
@@ -79,14 +79,14 @@ name-ok-requires c κs = search needs
 returns-6 : tie.Need-returns-6
 unfolding consistent
 returns-6 c =
-    sym (long (c .before .before .before .before .before .before .before .before .before)
+    sym (long (c .before .before .before .before .before .before .before .before .before .before)
     ∙ this 2 (ap not (yes-and (lists (c .before .before .before .before .before .before .before)) ∙ yes-and (nodes (c .before .before .before .before .before)) ∙ yes-and (readers (c .before .before .before)) ∙ no-and _ (sym (c .before .name-ok .ensures) ∙ not-true _ (c .if6 .taken)))))
 
 returns-7 : tie.Need-returns-7
 unfolding consistent
 returns-7 c =
-    sym (long (c .before .before .before .before .before .before .before .before .before)
-    ∙ none 2 (ap not (yes-and (lists (c .before .before .before .before .before .before .before)) ∙ yes-and (nodes (c .before .before .before .before .before)) ∙ yes-and (readers (c .before .before .before)) ∙ yes-and (sym (c .before .name-ok .ensures) ∙ not-false _ (c .if6 .left)) ∙ sized (c .before .before .before .before .before .before .before .before .before .before .before .before .before))))
+    sym (long (c .before .before .before .before .before .before .before .before .before .before)
+    ∙ none 2 (ap not (yes-and (lists (c .before .before .before .before .before .before .before)) ∙ yes-and (nodes (c .before .before .before .before .before)) ∙ yes-and (readers (c .before .before .before)) ∙ yes-and (sym (c .before .name-ok .ensures) ∙ not-false _ (c .if6 .left)) ∙ sized (c .before .before .before .before .before .before .before .before .before .before .before .before .before .before))))
 
 pub unfit-spec : {M : Type 1} → statement M
 unfit-spec =

@@ -1,30 +1,25 @@
 -- No count passes the limit exactly if none does from i on; so charges may be added up.
 -- Assumes nothing.
-use Prim.Native.Nat.{ℕ, _-_, _≤_, _<_}
+use Prim.Native.Nat.{_-_, _≤_, _<_}
 use mathlib.Core.Path.{_≡_, sym, _∙_}
-use mathlib.Core.Bool.{Bool, true}
+use mathlib.Core.Bool.{true}
 use mathlib.Core.List.{List}
 use native.Mathlib.Omega.{arith}
 use lib.Dec.{leb}
 use lib.ListN.{length, drop, getD, length-map}
 use borrow.Author.Needs.{needs}
-use borrow.Author.Tests.{le-leb, lt-leb, leb-true}
-use Rattle.units.specs.Count.{every}
+use borrow.Author.Tests.{le-leb, lt-leb}
 use Rattle.units.specs.declared.Words.{Words}
 use Rattle.units.proofs.Choice.{yes-and, no-and}
 use Rattle.state.specs.Consistent.{bounded}
-use Rattle.state.proofs.Lists.{every-at, every-end, every-get}
+use Rattle.state.proofs.Lists.{every-at, every-end}
 use Rattle.lists.specs.Room.{counts}
-use Rattle.lists.proofs.Charges.{count-at}
+use Rattle.lists.proofs.Charges.{count-at, limited, limit-at}
 use Rattle.lists.proofs.fine.bounds_met.Statement.{statement}
 use Rattle.lists.proofs.fine.bounds_met.Tie as tie
 
--- no count passes the limit
-abbrev limited : List ℕ → Bool
-limited = every (λ h. leb h 804)
-
 abbrev Inv-loop : tie.InvT-loop
-Inv-loop hs i₀ i = (i ≤ 17) × (limited (counts hs) ≡ limited (drop i (counts hs)))
+Inv-loop hs i₀ i = (i ≤ 17) × (limited 804 (counts hs) ≡ limited 804 (drop i (counts hs)))
 
 abbrev μ-loop : tie.MeasureT-loop
 μ-loop hs i₀ i = 17 - i
@@ -33,7 +28,7 @@ long : (c : tie.Start Inv-loop μ-loop) → length (counts (c .args .t1)) ≡ 17
 long c = let n : length (c .args .t1) ≡ 17 = search needs in rw length-map n
 
 -- past the loop: none does
-all-in : (c : tie.After-loop Inv-loop μ-loop) → limited (counts (c .before .before .args .t1)) ≡ true
+all-in : (c : tie.After-loop Inv-loop μ-loop) → limited 804 (counts (c .before .before .args .t1)) ≡ true
 all-in c = let n = long (c .before .before) in c .before .loop .inv .1 ∙ every-end (λ h. leb h 804) _ (c .before .loop .i) (omega arith)
 
 loop-holds : tie.Need-loop-holds Inv-loop μ-loop
@@ -72,7 +67,7 @@ charges-requires : tie.Need-charges-requires Inv-loop μ-loop
 charges-requires c κs =
     let hs = counts (c .before .before .args .t1) in
     let n = long (c .before .before) in
-    λ j g. omega (arith, leb-true (getD hs j 0) 804 (every-get (λ h. leb h 804) hs j 0 (all-in c) (omega arith)))
+    λ j g. omega (arith, limit-at 804 hs (all-in c) j (omega arith))
 
 returns-2 : tie.Need-returns-2 Inv-loop μ-loop
 unfolding bounded
