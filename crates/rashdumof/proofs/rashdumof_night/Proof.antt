@@ -41,7 +41,7 @@ unfolding number
 returns c =
     let l = c .before .before .before .before .before .list in
     let a = c .before .before .before .before .before .before .before .before .before .args in
-    (ap number (sym (c .before .n .given .1)) ∙ number-is (now (a .file)) (now (a .out)) (l .last .1 .0) (l .ensures), l .ensures .writes, l .ensures .fits)
+    (ap number (sym (c .before .n .given .1)) ∙ number-is (now (a .file)) (now (a .out)) (l .last .1 .0) (l .ensures), (l .ensures .writes, l .ensures .fits))
 
 same-length-2 : tie.Need-same-length-2
 same-length-2 c = search needs
@@ -51,7 +51,7 @@ unfolding number
 returns-2 c =
     let l = c .before .before .before .before .list in
     let a = c .before .before .before .before .before .before .before .before .args in
-    (ap number (sym (c .enum-told .given .1)) ∙ number-is (now (a .file)) (now (a .out)) (l .last .1 .0) (l .ensures), l .ensures .writes, l .ensures .fits)
+    (ap number (sym (c .enum-told .given .1)) ∙ number-is (now (a .file)) (now (a .out)) (l .last .1 .0) (l .ensures), (l .ensures .writes, l .ensures .fits))
 
 pub rashdumof-night-spec : {M : Type 1} → statement M
 rashdumof-night-spec =
