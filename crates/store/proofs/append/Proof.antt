@@ -46,7 +46,7 @@ add-if1 c =
 is-free-requires : tie.Need-is-free-requires
 is-free-requires c κs =
     let s = c .before .before .before .before .before .before in
-    (inside s, omega (arith, short s, c .before .next-place .ensures), known s .short)
+    (inside s, omega (arith, short s, c .before .next-place .ensures), omega (arith, known s .short))
 
 put-requires : tie.Need-put-requires
 put-requires c κs =
