@@ -80,37 +80,29 @@ pub fn talk(
     requires { ⌜ to + 691 ≤ length (now out) ⌝ }
     ensures { λ r. ⌜ Plays full (machine s (now (store .entry)) (now (plaques .entry))) (now (line .entry)) (now (out .entry)) to (now (out .exit)) (r .at) (machine (r .state) (now (store .exit)) (now (plaques .exit))) ⌝ }
 {
-    let mut words = [0u16; 256];
-    let mut id = [0u8; 16];
-    let mut bytes = [0u8; 2047];
-    match read_line(line, &mut words, &mut id, &mut bytes) {
+    let mut packet = [0u16; 256];
+    let mut name = [0u8; 16];
+    let mut content = [0u8; 2047];
+    match read_line(line, &mut packet, &mut name, &mut content) {
         Heard::Passed => Played { state: s, at: to },
         Heard::Unreadable => {
             let at = put_unreadable(out, to);
             Played { state: s, at }
         }
-        Heard::Command {
-            stamp,
-            form,
-            words: count,
-        } => {
-            let n = count.0;
-            told(obey(s, stamp, form, &words[..n], store, plaques), out, to)
+        Heard::Command { stamp, form, words } => {
+            let n = words.0;
+            told(obey(s, stamp, form, &packet[..n], store, plaques), out, to)
         }
         Heard::Check { node, stamp, clock } => told(
             check(s, node, stamp, clock, store, plaques),
             out,
             to,
         ),
-        Heard::Arrive {
-            node,
-            id: named,
-            bytes: held,
-        } => {
-            let n = named.0;
-            let k = held.0;
+        Heard::Arrive { node, id, bytes } => {
+            let n = id.0;
+            let k = bytes.0;
             told(
-                arrive(s, node, &id[..n], &bytes[..k], store, plaques),
+                arrive(s, node, &name[..n], &content[..k], store, plaques),
                 out,
                 to,
             )

@@ -1,5 +1,6 @@
 // A tour of the bench: at each reader a plaque arrives, a command reads three of its bytes, and the answer is collected and acknowledged;
-// at the gateway the name is asked for. Each answer, in framed form, is a line.
+// at the gateway the name is asked for. Each answer, in framed form, is a line. Then the gateway's handover number goes around.
+use dialogout::put_collected;
 use gateway::acknowledge;
 use gateway::arrive;
 use gateway::collect;
@@ -21,16 +22,20 @@ fn say(words: &[u16]) {
     }
 }
 
-// Plays a packet and hands its answer over.
-fn ask(s: State, node: u8, packet: &[u16], store: &mut [u16], plaques: &mut [u8]) -> State {
-    let t = Stamp {
+// 19 March, 10:11:36
+fn at() -> Stamp {
+    Stamp {
         month: 3,
         day: 19,
         hour: 10,
         minute: 11,
         second: 36,
-    };
-    let called = command(s, t, Form::Register, packet, store, plaques);
+    }
+}
+
+// Plays a packet and hands its answer over.
+fn ask(s: State, node: u8, packet: &[u16], store: &mut [u16], plaques: &mut [u8]) -> State {
+    let called = command(s, at(), Form::Register, packet, store, plaques);
     let u = called.state;
     let mut out = [0u16; 135];
     match collect(u, Form::Framed, node, store, plaques, &mut out) {
@@ -64,10 +69,48 @@ fn visit_readers(s: State, store: &mut [u16], plaques: &mut [u8]) -> State {
     t
 }
 
+// 79 is sent. It finds its own last answer, so that the handover number moves on each time but the first.
+fn clear(s: State, store: &mut [u16], plaques: &mut [u8]) -> State {
+    let packet = [0x0006u16, 0xAA79, 0x0020, 0x0000, 0x0000, 0x0000];
+    command(s, at(), Form::Register, &packet, store, plaques).state
+}
+
+// The gateway's oldest answer with its handover number, as the console says it.
+fn show(s: State, store: &[u16], plaques: &[u8]) {
+    let mut out = [0u16; 135];
+    let Handout::Handed(words, number) = collect(s, Form::Framed, 32, store, plaques, &mut out)
+    else {
+        return;
+    };
+    let n = words.0;
+    if 135 < n {
+        return;
+    }
+    let mut line = [0u8; 691];
+    let end = put_collected(&mut line, 0, number, &out[..n]);
+    if end <= 691 {
+        io::write_all(1, &line[..end]);
+    }
+}
+
+// The last handover number, and the one that follows it.
+fn go_around(store: &mut [u16], plaques: &mut [u8]) {
+    let mut s = state::fresh();
+    let mut k: u32 = 0;
+    while k < 65535 {
+        s = clear(s, store, plaques);
+        k += 1;
+    }
+    show(s, store, plaques);
+    s = clear(s, store, plaques);
+    show(s, store, plaques);
+}
+
 fn main() {
     let mut store = [0u16; 4096];
     let mut plaques = [0u8; 16384];
     let s = visit_readers(state::fresh(), &mut store, &mut plaques);
     let packet = [0x0006u16, 0xAA11, 0x0020, 0x0000, 0x0000, 0x0000];
     ask(s, 32, &packet, &mut store, &mut plaques);
+    go_around(&mut store, &mut plaques);
 }

@@ -36,8 +36,8 @@ put-unreadable-requires c κs = search needs
 enum-known-stamp : tie.Need-enum-known-stamp
 enum-known-stamp c = search needs
 
-array-share-prefix-words : tie.Need-array-share-prefix-words
-array-share-prefix-words c =
+array-share-prefix-packet : tie.Need-array-share-prefix-packet
+array-share-prefix-packet c =
     let r = c .before .before .before .before .before .before .read-line in
     let h = command-heard (now (c .before .before .before .before .before .before .before .before .before .before .before .before .before .before .args .line)) (r .ensures .0) _ _ (c .before .stamp .given .1) refl (r .ensures .1 .0) in
     h .0
@@ -66,8 +66,8 @@ told-requires-2 c κs = c .before .before .before .before .before .before .befor
 enum-known-node-2 : tie.Need-enum-known-node-2
 enum-known-node-2 c = search needs
 
-array-share-prefix-id : tie.Need-array-share-prefix-id
-array-share-prefix-id c =
+array-share-prefix-name : tie.Need-array-share-prefix-name
+array-share-prefix-name c =
     let r = c .before .before .before .before .before .before .read-line in
     let h = arrive-heard (now (c .before .before .before .before .before .before .before .before .before .before .before .before .before .before .args .line)) (r .ensures .0) _ _ _ _ (c .before .node2 .given .1) refl refl (r .ensures .1 .1 .0) (r .ensures .1 .1 .1) in
     h .0
@@ -78,8 +78,8 @@ slice-aggregate-arrive c =
     let h = arrive-heard (now (c .before .before .before .before .before .before .before .before .before .before .before .before .before .before .before .args .line)) (r .ensures .0) _ _ _ _ (c .before .before .node2 .given .1) refl refl (r .ensures .1 .1 .0) (r .ensures .1 .1 .1) in
     sym (length-take-le _ _ (h .0))
 
-array-share-prefix-bytes : tie.Need-array-share-prefix-bytes
-array-share-prefix-bytes c =
+array-share-prefix-content : tie.Need-array-share-prefix-content
+array-share-prefix-content c =
     let r = c .before .before .before .before .before .before .before .read-line in
     let h = arrive-heard (now (c .before .before .before .before .before .before .before .before .before .before .before .before .before .before .before .args .line)) (r .ensures .0) _ _ _ _ (c .before .before .node2 .given .1) refl refl (r .ensures .1 .1 .0) (r .ensures .1 .1 .1) in
     h .1 .0
@@ -247,7 +247,7 @@ talk-spec =
     enum-told-2
     put-unreadable-requires
     enum-known-stamp
-    array-share-prefix-words
+    array-share-prefix-packet
     slice-aggregate-obey
     obey-requires
     told-requires
@@ -255,9 +255,9 @@ talk-spec =
     check-requires
     told-requires-2
     enum-known-node-2
-    array-share-prefix-id
+    array-share-prefix-name
     slice-aggregate-arrive
-    array-share-prefix-bytes
+    array-share-prefix-content
     slice-aggregate-arrive-2
     arrive-requires
     told-requires-3

@@ -4,6 +4,9 @@ use borrow.Author.Needs.{needs}
 use Rattle.tour.proofs.ask.Statement.{statement}
 use Rattle.tour.proofs.ask.Tie as tie
 
+at-requires : tie.Need-at-requires
+at-requires c κs = search needs
+
 command-requires : tie.Need-command-requires
 command-requires c κs = search needs
 
@@ -53,6 +56,7 @@ pub ask-spec : {M : Type 1} → statement M
 ask-spec =
     tie.close
     (tie.spec
+    at-requires
     command-requires
     slice-aggregate-collect
     collect-requires
