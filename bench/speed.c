@@ -11,7 +11,7 @@
 #include "plain/console.h"
 #include "plain/night.h"
 
-enum { ROUNDS = 25, LINES = 100000 };
+enum { ROUNDS = 25, SPAN_MS = 2000, LINES = 100000 };
 
 typedef size_t play_fn(const uint8_t *in, size_t n, uint8_t *out, size_t cap);
 
@@ -59,7 +59,8 @@ static void time_once(struct side *s, const uint8_t *in, size_t n, size_t room)
         s->best = took;
 }
 
-/* Both sides in turn, each round in the other order; the best of all rounds counts. */
+/* Both sides in turn, each round in the other order, for 2 seconds at least, so that the processor's clock has settled for short inputs
+   too; the best of all rounds counts. */
 static bool race(const char *what, play_fn *plain, play_fn *ours, const uint8_t *in, size_t n,
                  size_t room)
 {
@@ -68,7 +69,8 @@ static bool race(const char *what, play_fn *plain, play_fn *ours, const uint8_t 
 
     warm_up(&sides[0], in, n, room);
     warm_up(&sides[1], in, n, room);
-    for (int round = 0; round < ROUNDS; round++) {
+    double began = now_ms();
+    for (int round = 0; round < ROUNDS || now_ms() - began < SPAN_MS; round++) {
         time_once(&sides[round % 2], in, n, room);
         time_once(&sides[1 - round % 2], in, n, room);
     }
