@@ -16,7 +16,7 @@ use Rattle.dialog.specs.Spoken.{spoken}
 use Rattle.dialog.specs.Dialog.{linesOf}
 use Rattle.dialog.proofs.FieldLaws.{next}
 use Rattle.dialog.proofs.SpokenLaws.{too-long}
-use Rattle.gather.specs.Pieces.{lineIn, fed, Gathers}
+use Rattle.gather.specs.Pieces.{lineIn, fed, Gathers, Holds}
 use Rattle.gather.specs.declared.Gathered.{Gathered}
 
 -- ---- a byte more
@@ -222,11 +222,7 @@ module _ {piece line line′ : List ℕ} {from kept : ℕ} {r : Gathered} where
     by true e = omega (arith, at-whole q e, line-less (drop from piece) (sym (q .whole) ∙ e), length-drop from piece)
     by false e = omega (arith, at-part q e, line-within piece from h)
 
--- the first bytes of a line are kept, as many as there is room for
-pub record Holds (line : List ℕ) (kept : ℕ) (sofar : List ℕ) : Type 0 where
-  pub first : take kept line ≡ take (length line) sofar
-  pub count : kept ≡ length (take (length line) sofar)
-
+-- ---- what is kept of a line so far
 pub holds-none : (line : List ℕ) → Holds line 0 []
 holds-none line = record { first = sym (take-nil (length line)); count = sym (ap length (take-nil {A = ℕ} (length line))) }
 

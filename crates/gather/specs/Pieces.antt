@@ -25,3 +25,8 @@ pub record Gathers (piece : List ℕ) (from : ℕ) (line : List ℕ) (kept : ℕ
   pub at : r .at ≡ from + length (lineIn (drop from piece)) + cond (r .whole) 1 0
   pub kept′ : r .kept ≡ kept + min (length (lineIn (drop from piece))) (length line - kept)
   pub bytes : line′ ≡ sets line kept (take (length line - kept) (lineIn (drop from piece)))
+
+-- of the bytes that came of a line so far the first are kept, as many as there is room for
+pub record Holds (line : List ℕ) (kept : ℕ) (sofar : List ℕ) : Type 0 where
+  pub first : take kept line ≡ take (length line) sofar
+  pub count : kept ≡ length (take (length line) sofar)
