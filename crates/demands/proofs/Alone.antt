@@ -11,7 +11,7 @@ use Rattle.meaning.specs.Gateway.{Node, Reader, Gateway, put, joined, join, tak
 use Rattle.meaning.specs.Room.{fits}
 use Rattle.meaning.specs.Call.{Call, Try, Local, Outcome, Whom, nobody, gateway, one, lifted, heeded, tried, settled, roomed, step, run, fromDesk, Desk, judged, whom, named, Result, done}
 use Rattle.demands.specs.Sound.{Sound}
-use Rattle.demands.specs.Demand.{Bounds, kept, spared, stays, struck, Line, line, log, ours, Eased, Ease}
+use Rattle.demands.specs.Demand.{Bounds, kept, spared, stays, struck, line, log, ofOurs, Same, ours, Eased, Ease}
 use Rattle.demands.proofs.Aim.{Aim, aim, reader-apart}
 use Rattle.demands.proofs.Room.{put-other, BoundsT, bounds-tried, bounds-step, bounds-fresh, fits-within}
 
@@ -31,13 +31,6 @@ unfolding stays spared
 others-struck b i c n e h = rw e (ne-eqb n i h)
 
 -- ---- what reader i sees
--- two gateways that are the same to reader i: its own node and state, the gateway's own node, and the name
-pub record Same (i : ℕ) (g s : Gateway) : Type 0 where
-  pub name : g .name ≡ s .name
-  pub own : g .nodes i ≡ s .nodes i
-  pub hubs : g .nodes hub ≡ s .nodes hub
-  pub side : g .reader i ≡ s .reader i
-
 same-refl : (i : ℕ) (g : Gateway) → Same i g g
 same-refl i g = record { name = refl; own = refl; hubs = refl; side = refl }
 
@@ -223,10 +216,6 @@ apart-step b ok i g s c e q = apart-settled b i g s e (apart-tried b ok i g s c 
 same-line : (i : ℕ) (c : Call) (o u : Outcome) → Agree i o u → line i c o ≡ line i c u
 unfolding line
 same-line i c o u a = cc (a .said, a .next .own, a .next .side, a .next .name)
-
--- the lines that stay
-abbrev pub ofOurs : Bench → ℕ → Line → Bool
-ofOurs b i l = stays b i (l .call)
 
 -- one call more, where `rest` is the theorem for the calls after it
 alone-call : (b : Bench) → Sound b → (i : ℕ) (c : Call) (cs : List Call) (g s : Gateway) → Same i g s → Bounds b g → Bounds b s

@@ -15,7 +15,7 @@ use Rattle.meaning.specs.Gateway.{Node, Reader, Gateway, put, setReader, join, 
 use Rattle.meaning.specs.Room.{added, held, fits}
 use Rattle.meaning.specs.Call.{Call, Local, Try, Whom, nobody, gateway, one, Desk}
 use Rattle.meaning.specs.Call.{judged, whom, lifted, fromDesk, heeded, tried, roomed, settled, step, run}
-use Rattle.demands.specs.Counts.{nodeFor, broomCall, broomFor, isSweep, isAck, Past, answerOf, turned, past}
+use Rattle.demands.specs.Counts.{nodeFor, broomCall, broomFor, isSweep, isAck, Past, answerOf, turned, past, unmade, Tells}
 use Rattle.demands.proofs.Local.{cond-all, FineL, fine-atReader, fine-atHub}
 use Rattle.demands.proofs.Counted.{Brooms, brooms-atHub}
 
@@ -83,10 +83,6 @@ pend-tried b n g c =
     cond-all (PendT n (nodeFor (whom b c)) (broomFor b c (whom b c)) (isAck c) g) (eqb (judged b c) 0) _ _ (pend-heeded b n g c (whom b c)) tt
 
 -- ---- a list and its past
-pub record Tells (p : Past) (ws : List (List ℕ)) : Type 0 where
-  pub pending : ws ≡ drop (p .gone) (p .made)
-  pub within : p .gone ≤ length (p .made)
-
 tells-went : (p : Past) {ws vs : List (List ℕ)} {t : Bool} → Tells p ws → Went ws t vs
     → Tells (record { made = p .made; gone = cond t (p .gone + 1) (p .gone) }) vs
 tells-went p h kept = h
@@ -146,11 +142,11 @@ tells-from b n (c ∷ cs) g p e =
 
 -- from a fresh state: node n's list is what was made there, in order, without as many of the oldest as went
 pub history : (b : Bench) (n : ℕ) (memory : ℕ → List ℕ) (cs : List Call)
-    → Tells (past b n (fresh memory) cs (record { made = []; gone = 0 })) ((run b (fresh memory) cs) .nodes n .pending)
+    → Tells (past b n (fresh memory) cs unmade) ((run b (fresh memory) cs) .nodes n .pending)
 unfolding fresh
-history b n memory cs = tells-from b n cs (fresh memory) (record { made = []; gone = 0 }) (record { pending = refl; within = le-refl _ })
+history b n memory cs = tells-from b n cs (fresh memory) unmade (record { pending = refl; within = le-refl _ })
 
 -- and its held words are those of these answers
-pub held-counted : (b : Bench) (n : ℕ) (memory : ℕ → List ℕ) (cs : List Call) → let p = past b n (fresh memory) cs (record { made = []; gone = 0 }) in
+pub held-counted : (b : Bench) (n : ℕ) (memory : ℕ → List ℕ) (cs : List Call) → let p = past b n (fresh memory) cs unmade in
     held ((run b (fresh memory) cs) .nodes n) ≡ added (drop (p .gone) (p .made))
 held-counted b n memory cs = ap added (history b n memory cs .pending)

@@ -19,47 +19,7 @@ use Rattle.meaning.specs.Response.{originDoubts, contentDoubts, responseDoubts,
 use Rattle.meaning.specs.declared.packet.Command.{Command}
 use Rattle.meaning.specs.declared.packet.Response.{Response}
 use Rattle.meaning.specs.Call.{Call, command, check, arrive, leave, collect, acknowledge, asked, judged}
-
--- a doubt: its number, and whether it applies
-pub record Doubt : Type 0 where
-  pub number : ℕ
-  pub applies : Bool
-
--- those of a chain, from left to right, and their numbers
-unfoldable pub doubts : Doubts → List Doubt
-doubts (n when t) = record { number = n; applies = t } ∷ []
-doubts (n at k when t) = record { number = n; applies = t } ∷ []
-doubts (ds orElse es) = doubts ds ++ doubts es
-
-unfoldable pub numbers : List Doubt → List ℕ
-numbers [] = []
-numbers (d ∷ ds) = d .number ∷ numbers ds
-
--- the numbers are k or more, and never fall
-unfoldable pub rise : ℕ → List ℕ → Bool
-rise k [] = true
-rise k (n ∷ ns) = leb k n && rise n ns
-
-unfoldable pub positive : List ℕ → Bool
-positive [] = true
-positive (n ∷ ns) = leb 1 n && positive ns
-
--- a number that stands there several times in a row, only once
-unfoldable pub once : List ℕ → List ℕ
-once [] = []
-once (n ∷ []) = n ∷ []
-once (n ∷ m ∷ ns) = cond (eqb n m) (once (m ∷ ns)) (n ∷ once (m ∷ ns))
-
--- n is the number of the first doubt that applies; 0 says that none does
-pub data First : ℕ → List Doubt → Type 0 where
-  none : First 0 []
-  this : (n : ℕ) (ds : List Doubt) → First n (record { number = n; applies = true } ∷ ds)
-  next : {n : ℕ} (m : ℕ) {ds : List Doubt} → First n ds → First n (record { number = m; applies = false } ∷ ds)
-
--- n is the number of a doubt that applies
-pub data Applies (n : ℕ) : List Doubt → Type 0 where
-  here : (ds : List Doubt) → Applies n (record { number = n; applies = true } ∷ ds)
-  later : (d : Doubt) {ds : List Doubt} → Applies n ds → Applies n (d ∷ ds)
+use Rattle.demands.specs.Order.{Doubt, doubts, numbers, rise, positive, once, First, none, this, next, Applies, here, later}
 
 -- ---- every chain
 positive-append : (ds es : List Doubt) → positive (numbers (ds ++ es)) ≡ true → (positive (numbers ds) ≡ true) × (positive (numbers es) ≡ true)

@@ -24,7 +24,8 @@ use Rattle.meaning.specs.Call.{named, serves, whom, lifted, fromDesk, heeded, t
 use Rattle.meaning.proofs.Chain.{accepts, fine, fine-at}
 use Rattle.demands.specs.Sound.{Sound}
 use Rattle.demands.specs.Demand.{Bounds}
-use Rattle.demands.proofs.Lowest.{Doubt, doubts, numbers, First, none, this, next, Applies, judged-first, judged-lowest}
+use Rattle.demands.specs.Order.{Doubt, doubts, numbers, First, none, this, next, Applies}
+use Rattle.demands.proofs.Lowest.{judged-first, judged-lowest}
 use Rattle.demands.proofs.Local.{late, FineL, SuitsReader, SuitsHub, fine-atReader, fine-atHub}
 use Rattle.demands.proofs.Aim.{Aim, aim, reader-apart}
 use Rattle.demands.proofs.Room.{BoundsT, Within, bounds-tried, bounds-run, fits-within}
@@ -53,7 +54,7 @@ judged-early : (b : Bench) (c : Call) → (eqb (judged b c) 0 || within 3 11 (ju
 judged-early b c = first-all (within 3 11) (judged-first b c) (asked-early b c)
 
 -- ---- a call in which nothing is wrong is for a node, and suits it
-who : (b : Bench) (t : Stamp) (f : Form) (ws : List ℕ) → judged b (command t f ws) ≡ 0
+pub who : (b : Bench) (t : Stamp) (f : Form) (ws : List ℕ) → judged b (command t f ws) ≡ 0
     → (isNode b (named (command t f ws)) ≡ true) × (suits (kindIn b f ws) (named (command t f ws)) ≡ true)
 unfolding judged asked commandDoubts rowDoubts whoDoubts named kindIn commandIn commandOf
 who b t f ws e =
@@ -155,6 +156,13 @@ refusals b ok g c k e = refusal-tried b g c k (tried b g c) refl (reason-tried b
 -- so it is 3 to 16
 within-both : (a z k : ℕ) → within a z k ≡ true → (a ≤ k) × (k ≤ z)
 within-both a z k e = let p = and-true (leb a k) (leb k z) e in (leb-true a k (p .0), leb-true k z (p .1))
+
+pub judged-low : (b : Bench) (c : Call) → judged b c ≤ 11
+judged-low b c = go (eqb (judged b c) 0) refl (judged-early b c)
+  where
+    go : (t : Bool) → eqb (judged b c) 0 ≡ t → (t || within 3 11 (judged b c)) ≡ true → judged b c ≤ 11
+    go true e p = omega (arith, eqb-true (judged b c) 0 e)
+    go false e p = within-both 3 11 (judged b c) p .1
 
 pub refused-numbers : (b : Bench) → Sound b → (g : Gateway) (c : Call) (k : ℕ) → (step b g c) .said ≡ refused k → (3 ≤ k) × (k ≤ 16)
 unfolding late

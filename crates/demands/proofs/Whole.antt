@@ -16,15 +16,10 @@ use Rattle.meaning.specs.Gateway.{Gateway}
 use Rattle.meaning.specs.Call.{Call, command, check, arrive, leave, collect, acknowledge, Said, refused, answered, queued, asked, step}
 use Rattle.demands.specs.Sound.{Sound}
 use Rattle.demands.specs.Wrong.{stateDoubts, wrong}
-use Rattle.demands.proofs.Lowest.{doubts, numbers, rise, Applies, refusal-applies, refusal-lowest, rise-positive}
+use Rattle.demands.specs.Order.{doubts, numbers, rise, Applies, Lowest}
+use Rattle.demands.proofs.Lowest.{refusal-applies, refusal-lowest, rise-positive}
 use Rattle.demands.proofs.Numbers.{refused-numbers}
 use Rattle.demands.proofs.Late.{number, number-step}
-
--- a refusal's number applies, and no lower one does; and where one applies, there is a refusal
-pub record Lowest (s : Said) (ds : Doubts) : Type 0 where
-  pub applies : (k : ℕ) → s ≡ refused k → Applies k (doubts ds)
-  pub lowest : (k : ℕ) → s ≡ refused k → (n : ℕ) → Applies n (doubts ds) → k ≤ n
-  pub refuses : (n : ℕ) → Applies n (doubts ds) → (k : ℕ) × (s ≡ refused k)
 
 said-number : (s : Said) → 1 ≤ number s → s ≡ refused (number s)
 said-number (refused k) h = refl

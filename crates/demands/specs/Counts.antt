@@ -1,16 +1,20 @@
 -- Instance counts, counted from the calls and their results: the answers of a node since the start or the last 61.
 -- Assumes nothing.
-use Prim.Native.Nat.{ℕ, _+_}
+use Prim.Native.Nat.{ℕ, _+_, _≤_}
+use mathlib.Core.Path.{_≡_}
+use mathlib.Core.Logic.{_⊎_}
 use mathlib.Core.Bool.{Bool, true, false, _&&_, cond}
 use mathlib.Core.List.{List, [], _∷_, _++_}
 use lib.Dec.{eqb}
-use lib.ListN.{length}
+use lib.ListN.{length, drop}
+use Rattle.units.specs.declared.Form.{Form}
 use Rattle.meaning.specs.Bench.{Bench, hub}
 use Rattle.meaning.specs.declared.table.OfGateway.{OfGateway}
 use Rattle.meaning.specs.declared.table.OfGateway.the-variants.{GetName, SetName, Initialise, ResetGateway, Clear}
 use Rattle.meaning.specs.declared.table.Kind.{Kind}
 use Rattle.meaning.specs.declared.table.Kind.the-variants as K
-use Rattle.meaning.specs.Call.{Call, command, check, arrive, leave, collect, acknowledge, Said, refused, answered, queued, Whom, nobody, gateway, one, whom, Try, tried, step, kindIn}
+use Rattle.meaning.specs.Call.{Call, command, check, arrive, leave, collect, acknowledge, Said, refused, answered, queued}
+use Rattle.meaning.specs.Call.{Whom, nobody, gateway, one, whom, Try, tried, step, commandIn, kindIn}
 use Rattle.meaning.specs.Gateway.{Gateway, Sweep, none, clearing, resetting}
 use Rattle.demands.specs.Demand.{Line}
 
@@ -52,6 +56,10 @@ unfoldable pub broomFor : Bench → Call → Whom → Sweep
 broomFor b c nobody = none
 broomFor b c gateway = broomCall b c
 broomFor b c (one n) = none
+
+-- a command packet that empties all lists, by its number: 61 or 79
+abbrev pub Sweeps : Form → List ℕ → Type 0
+Sweeps f ws = (commandIn f ws .command ≡ 0x61) ⊎ (commandIn f ws .command ≡ 0x79)
 
 unfoldable pub isReset : Sweep → Bool
 isReset none = false
@@ -105,3 +113,12 @@ past b n g [] p = p
 past b n g (c ∷ cs) p =
     past b n ((step b g c) .next) cs
     (turned ((step b g c) .said) (broomFor b c (whom b c)) (isAck c) (eqb n (nodeFor (whom b c))) (answerOf (tried b g c)) p)
+
+-- where every past starts: nothing has been made at the node, and nothing is gone
+abbrev pub unmade : Past
+unmade = record { made = []; gone = 0 }
+
+-- a list of answers is as its past tells: what was made there, in order, without as many of the oldest as are gone
+pub record Tells (p : Past) (ws : List (List ℕ)) : Type 0 where
+  pub pending : ws ≡ drop (p .gone) (p .made)
+  pub within : p .gone ≤ length (p .made)

@@ -45,6 +45,17 @@ unfoldable pub log : Bench → ℕ → Gateway → List Call → List Line
 log b i g [] = []
 log b i g (c ∷ cs) = line i c (step b g c) ∷ log b i ((step b g c) .next) cs
 
+-- the lines whose calls stay
+abbrev pub ofOurs : Bench → ℕ → Line → Bool
+ofOurs b i l = stays b i (l .call)
+
+-- two gateways that are the same to reader i: its own node, its reader with the region, the gateway's own node, and the name
+pub record Same (i : ℕ) (g s : Gateway) : Type 0 where
+  pub name : g .name ≡ s .name
+  pub own : g .nodes i ≡ s .nodes i
+  pub hubs : g .nodes hub ≡ s .nodes hub
+  pub side : g .reader i ≡ s .reader i
+
 -- an answer of node n is one of reader i or of the gateway's own node
 abbrev pub ours : ℕ → ℕ → Bool
 ours i n = eqb n i || eqb n hub

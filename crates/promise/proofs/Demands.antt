@@ -1,25 +1,37 @@
--- Demand 3, and the counts of demand 2, of the code's own machines: "From a fresh state, over any calls with state and lent memory handed back
--- unaltered". What demands proves of the meaning's runs holds of every chain of calls from a fresh machine. (Strike-out is `struck-chain`.)
+-- Demand 3, and the counts of demand 2, of the code's own machines: "From a fresh state, over any calls with state and lent memory handed
+-- back unaltered". What demands proves of the meaning's runs holds of every chain of calls from a fresh machine. (Strike-out call by
+-- call is `struck-chain`.)
 -- Assumes nothing.
 use Prim.Native.Nat.{ℕ, zero, suc, _+_, _*_, _%_, _≤_, _<_}
-use mathlib.Core.Path.{_≡_, sym, ap, _∙_}
+use mathlib.Core.Path.{_≡_, sym, ap, _∙_, subst}
 use mathlib.Core.List.{List, [], _∷_}
+use native.Mathlib.Omega.{arith}
+use native.Mathlib.Decide.{ℕ-discrete}
 use lib.ListN.{length, take, drop}
+use borrow.Author.Tests.{ne-eqb}
+use Rattle.units.specs.declared.Form.{Form}
+use Rattle.units.specs.declared.stamp.Stamp.{Stamp}
+use Rattle.units.proofs.Choice.{no-cond}
 use Rattle.meaning.specs.Bench.{Bench, full}
 use Rattle.meaning.specs.Packet.{wordNo}
 use Rattle.meaning.specs.Gateway.{Gateway, fresh}
 use Rattle.meaning.specs.Room.{added, held, charges}
-use Rattle.meaning.specs.Call.{Try, refused, tried, step, run}
-use Rattle.demands.specs.Sound.{full-sound}
-use Rattle.demands.specs.Demand.{Line}
-use Rattle.demands.specs.Counts.{Past, tally, past}
+use Rattle.meaning.specs.Call.{command, Try, Said, refused, queued, Outcome, judged, tried, step, run}
+use Rattle.demands.specs.Sound.{Sound, full-sound}
+use Rattle.demands.specs.Demand.{Line, struck, Same, Ease}
+use Rattle.demands.specs.Counts.{Sweeps, tally, past, unmade, Tells}
 use Rattle.demands.proofs.Room.{bounds-run}
 use Rattle.demands.proofs.Third.{never-over, never-refused}
+use Rattle.demands.proofs.Alone.{strike-out-state}
 use Rattle.demands.proofs.Counted.{counted}
-use Rattle.demands.proofs.History.{Tells, history}
-use Rattle.state.specs.Machine.{Machine, regionOf}
-use Rattle.promise.specs.Obeyed.{Obeyed}
+use Rattle.demands.proofs.Swept.{sweep-queued, sweep-room}
+use Rattle.demands.proofs.History.{history}
+use Rattle.state.specs.Machine.{Machine, meaning, regionOf}
+use Rattle.state.specs.Consistent.{unfit}
+use Rattle.promise.specs.Obeyed.{expected, Obeyed}
 use Rattle.promise.specs.Runs.{Heard, Chain, ended, calls, lines, freshMachine, reached}
+use Rattle.promise.proofs.Parts.{unfit-low}
+use Rattle.promise.proofs.Rooms.{fit-bounds}
 use Rattle.promise.proofs.Chains.{stepped, chain-ends, chain-fit, fresh-fit, fresh-means, fresh-lines}
 
 -- the first k calls of a chain are a chain
@@ -28,10 +40,6 @@ unfolding Chain
 chain-front b zero m hs c = tt
 chain-front b (suc k) m [] c = tt
 chain-front b (suc k) m (h ∷ hs) c = (c .0, chain-front b k (h .after) hs (c .1))
-
--- nothing has been made at a node, and nothing is gone
-abbrev pub unmade : Past
-unmade = record { made = []; gone = 0 }
 
 module _ (store memory : List ℕ) (words : length store ≡ full .store) (bytes : length memory ≡ full .readers * full .region) (hs : List Heard)
     (chain : Chain full (freshMachine store memory) hs) where
@@ -74,3 +82,34 @@ code-never-over store memory words bytes hs chain k =
     let c = chain-front full k (freshMachine store memory) hs chain in
     let e = fresh-ends store memory words bytes (take k hs) c in
     rw e (never-over (regionOf full memory) (calls (take k hs)), bounds-run full full-sound (regionOf full memory) (calls (take k hs)) .stored)
+
+-- "For 61 and 79 room is judged after emptying, so it is always there": on a consistent machine, as every machine of a chain is by
+-- `chain-fit`, a 61 or a 79 in which nothing is wrong is obeyed; and on no machine at all is one refused for room
+module _ (b : Bench) (ok : Sound b) (m : Machine) (t : Stamp) (f : Form) (ws : List ℕ) (sweeps : Sweeps f ws) where
+  pub code-sweep-queued : unfit b m ≡ 0 → judged b (command t f ws) ≡ 0
+      → (said : Said) (m′ : Machine) → Obeyed b (command t f ws) m said m′ → said ≡ queued
+  code-sweep-queued u e said m′ o =
+      stepped b (command t f ws) m said m′ u o .says ∙ sweep-queued b t f ws ok (meaning b m) (fit-bounds b ok m u) sweeps e
+
+  pub code-sweep-room : (said : Said) (m′ : Machine) → Obeyed b (command t f ws) m said m′ → said ≡ refused 13 → ⊥
+  unfolding expected
+  code-sweep-room said m′ o r = elim (ℕ-discrete (unfit b m) 0) [
+    | yes u ↦ sweep-room b t f ws ok (meaning b m) (fit-bounds b ok m u) sweeps (sym (stepped b (command t f ws) m said m′ u o .says) ∙ r)
+    | no d ↦
+        let q : expected b (command t f ws) m .said ≡ refused (unfit b m) =
+        ap (λ (x : Outcome). x .said) (no-cond _ (ne-eqb (unfit b m) 0 d)) in
+        let p = o .says in
+        let z : unfit b m ≡ 13 = cc in omega (arith, unfit-low b m)
+  ]
+
+-- strike-out at the end: after both chains reader i's node, its reader with the region, the gateway's own node and the name are the same.
+-- As the first calls of a chain are a chain, so they are at every point of them
+pub struck-end : (i : ℕ) (store memory : List ℕ) → length store ≡ full .store → length memory ≡ full .readers * full .region
+    → (hs js : List Heard) → Chain full (freshMachine store memory) hs → Chain full (freshMachine store memory) js
+    → calls js ≡ struck full i (calls hs) → Ease full i (fresh (regionOf full memory)) (calls hs) → Same i (reached store memory hs) (reached store memory js)
+struck-end i store memory words bytes hs js c d e z =
+    let g : Gateway = fresh (regionOf full memory) in
+    let there : reached store memory js ≡ run full g (struck full i (calls hs)) =
+    fresh-ends store memory words bytes js d ∙ ap (run full g) e in
+    subst (λ (x : Gateway). Same i x (reached store memory js)) (sym (fresh-ends store memory words bytes hs c))
+    (subst (Same i (run full g (calls hs))) (sym there) (strike-out-state full full-sound i (regionOf full memory) (calls hs) z))

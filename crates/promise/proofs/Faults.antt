@@ -13,10 +13,10 @@ use Rattle.meaning.specs.Call.{Call, Said, Outcome, refused, step}
 use Rattle.meaning.proofs.Chain.{pass, stop}
 use Rattle.demands.specs.Sound.{Sound}
 use Rattle.demands.specs.Wrong.{wrong}
-use Rattle.demands.proofs.Lowest.{doubts, numbers, rise}
+use Rattle.demands.specs.Order.{doubts, numbers, rise, Lowest}
 use Rattle.demands.proofs.Numbers.{refused-numbers}
 use Rattle.demands.proofs.Late.{number, number-step}
-use Rattle.demands.proofs.Whole.{Lowest, lowest-by, rise-down, wrong-rise}
+use Rattle.demands.proofs.Whole.{lowest-by, rise-down, wrong-rise}
 use Rattle.state.specs.Machine.{Machine, meaning}
 use Rattle.state.specs.Consistent.{lent, unfit}
 use Rattle.promise.specs.Obeyed.{expected, Obeyed}

@@ -1,8 +1,9 @@
 -- Refusals 1 and 2, part by part: what is known of a machine that has neither, and what has to be shown for it.
 -- Assumes nothing.
-use Prim.Native.Nat.{_+_, _*_}
+use Prim.Native.Nat.{_+_, _*_, _≤_}
 use mathlib.Core.Path.{_≡_, refl, ap, _∙_}
-use mathlib.Core.Bool.{true, false, not}
+use mathlib.Core.Bool.{Bool, true, false, not}
+use native.Mathlib.Omega.{arith}
 use lib.Dec.{eqb}
 use lib.ListN.{length}
 use borrow.Author.Tests.{eqb-true, eq-eqb, not-false}
@@ -63,6 +64,14 @@ module _ (b : Bench) (m : Machine) where
   pub unfit-0 : lengths b m ≡ true → consistent b m ≡ true → unfit b m ≡ 0
   unfolding unfit lent
   unfit-0 e f = pass-if 1 _ (ap not e) ∙ none 2 (ap not f)
+
+  pub unfit-low : unfit b m ≤ 2
+  unfit-low = go (lengths b m) refl (consistent b m) refl
+    where
+      go : (t : Bool) → lengths b m ≡ t → (u : Bool) → consistent b m ≡ u → unfit b m ≤ 2
+      go false e u f = omega (arith, unfit-1 e)
+      go true e false f = omega (arith, unfit-2 e f)
+      go true e true f = omega (arith, unfit-0 e f)
 
   pub fit : Parts b m → unfit b m ≡ 0
   unfolding lengths consistent arrays

@@ -2,24 +2,25 @@
 -- Assumes nothing.
 use Prim.Native.Nat.{ℕ, zero, suc, _+_, _-_, _≤_, max}
 use mathlib.Core.Path.{_≡_, refl, sym, ap, _∙_, subst}
-use mathlib.Core.Bool.{Bool, true, _&&_}
+use mathlib.Core.Bool.{Bool, true, false, _&&_}
 use mathlib.Core.List.{List, [], _∷_, map}
 use native.Mathlib.Omega.{arith}
 use lib.Dec.{leb}
 use lib.ListN.{length, getD, take, set, length-map, length-set, List·getD-map}
 use lib.Seq.{take-all}
-use borrow.Author.Tests.{le-leb}
+use borrow.Author.Tests.{le-leb, leb-true}
 use Rattle.units.specs.Count.{every}
-use Rattle.units.proofs.Choice.{yes-cond}
+use Rattle.units.proofs.Choice.{yes-cond, no-cond, and-true}
 use Rattle.meaning.specs.Bench.{Bench, hub, isReader, isNode}
 use Rattle.meaning.specs.Packet.{wordNo}
 use Rattle.meaning.specs.Gateway as M
 use Rattle.meaning.specs.Gateway.{Gateway, joined, join}
 use Rattle.meaning.specs.Room.{added, held, shareOf, charge, total, charges, fits}
 use Rattle.demands.specs.Sound.{Sound}
+use Rattle.demands.specs.Demand.{Bounds}
 use Rattle.demands.proofs.Room.{put-same, held-joined}
 use Rattle.state.specs.Machine.{Machine, machine, meaning, seen, nodeSlot, nodesOf, readersOf, nodeOf, plain}
-use Rattle.state.specs.Consistent.{heldsOf, chargesOf, nodeOk}
+use Rattle.state.specs.Consistent.{heldsOf, chargesOf, bounded, nodeOk, unfit}
 use Rattle.state.specs.declared.node.Node.{Node}
 use Rattle.state.specs.declared.State.{State}
 use Rattle.state.proofs.Lists.{map-set, every-get}
@@ -27,8 +28,9 @@ use Rattle.lists.specs.Room.{roomFor}
 use Rattle.lists.proofs.Charges.{charges-more}
 use Rattle.store.specs.Joined.{Added}
 use Rattle.store.proofs.Every.{both, every-set}
+use Rattle.store.proofs.Order.{lists-parts}
 use Rattle.store.proofs.Rooms.{helds-mean}
-use Rattle.promise.proofs.Parts.{Parts, fit, Means}
+use Rattle.promise.proofs.Parts.{Parts, parts, fit, Means}
 use Rattle.promise.proofs.Tables.{seen-set, node-inj, node-inside, reader-node, reader-slot, node-hub}
 
 -- ---- charges, node by node and as a list
@@ -175,3 +177,39 @@ module _ (b : Bench) (m : Machine) (n : ℕ) (w : List ℕ) (is : isNode b n ≡
 
     pub added-changed : Means b (machine s′ store′ (m .memory)) (join n w (meaning b m))
     added-changed = record { fit = fit b _ added-fit; means = added-means }
+
+-- ---- a consistent machine means a gateway that keeps both bounds
+module _ (b : Bench) (ok : Sound b) (m : Machine) (fits : unfit b m ≡ 0) where
+  limits : bounded b (heldsOf (m .store) (m .state .nodes)) ≡ true
+  limits = lists-parts b (m .store) (m .state .nodes) (parts b m fits .lists) .2
+
+  fit-bounded : (n : ℕ) → held (meaning b m .nodes n) ≤ b .limit
+  unfolding bounded meaning nodesOf seen added heldsOf
+  fit-bounded n = go (isNode b n) refl
+    where
+      p : Parts b m
+      p = parts b m fits
+
+      go : (t : Bool) → isNode b n ≡ t → held (meaning b m .nodes n) ≤ b .limit
+      go true is =
+          let hs : List ℕ = heldsOf (m .store) (m .state .nodes) in
+          let l : length hs ≡ b .readers + 1 = rw length-map (p .eachNode) in
+          let o = and-true (every (λ h. leb h (b .limit)) hs) _ limits in
+          let i : ℕ = nodeSlot b n in
+          let k = every-get (λ h. leb h (b .limit)) hs i 0 (o .0) (node-inside b n (length hs) is l) in
+          omega (arith, held-in b m n [] is p, leb-true (getD hs i 0) (b .limit) k)
+      go false is = omega (arith, ap held (no-cond {b = plain} (getD (map (nodeOf (m .store)) (m .state .nodes)) (nodeSlot b n) plain) is))
+
+  pub fit-bounds : Bounds b (meaning b m)
+  unfolding bounded meaning nodesOf
+  fit-bounds = record {
+    bounded = fit-bounded;
+    stored =
+        let p = parts b m fits in
+        let hs : List ℕ = heldsOf (m .store) (m .state .nodes) in
+        let o = and-true (every (λ h. leb h (b .limit)) hs) _ limits in
+        let c : charges b (meaning b m) ≡ chargesOf (b .share) hs =
+        charges-table b ok (meaning b m) (map (nodeOf (m .store)) (m .state .nodes)) (many b m hub [] (node-hub b) p) refl
+        ∙ ap (chargesOf (b .share)) (sym (helds-mean (m .store) (m .state .nodes))) in
+        omega (arith, leb-true (chargesOf (b .share) hs) (b .store) (o .1));
+  }
