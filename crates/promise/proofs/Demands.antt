@@ -106,7 +106,8 @@ module _ (b : Bench) (ok : Sound b) (m : Machine) (t : Stamp) (f : Form) (ws : L
 -- As the first calls of a chain are a chain, so they are at every point of them
 pub struck-end : (i : ℕ) (store memory : List ℕ) → length store ≡ full .store → length memory ≡ full .readers * full .region
     → (hs js : List Heard) → Chain full (freshMachine store memory) hs → Chain full (freshMachine store memory) js
-    → calls js ≡ struck full i (calls hs) → Ease full i (fresh (regionOf full memory)) (calls hs) → Same i (reached store memory hs) (reached store memory js)
+    → calls js ≡ struck full i (calls hs) → Ease full i (fresh (regionOf full memory)) (calls hs)
+    → Same i (reached store memory hs) (reached store memory js)
 struck-end i store memory words bytes hs js c d e z =
     let g : Gateway = fresh (regionOf full memory) in
     let there : reached store memory js ≡ run full g (struck full i (calls hs)) =

@@ -16,6 +16,7 @@ pub mod Faults
 pub mod Chains
 pub mod Demands
 pub mod Sixteen
+pub mod Examples
 pub mod Locals
 pub mod Commands
 pub mod Accepted

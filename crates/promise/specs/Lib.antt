@@ -3,3 +3,4 @@ pub mod Same
 pub mod Faults
 pub mod Runs
 pub mod Sixteen
+pub mod Examples
