@@ -2,7 +2,7 @@
 -- Assumes nothing.
 use Prim.Native.Nat.{ℕ}
 use mathlib.Core.Path.{_≡_, refl, sym, ap, _∙_, subst}
-use mathlib.Core.Logic.{_⊎_, inl, inr}
+use mathlib.Core.Logic.{inl, inr}
 use mathlib.Core.Bool.{true, false, false≢true, true≢false}
 use mathlib.Core.List.{List}
 use native.Mathlib.Omega.{arith}
@@ -19,7 +19,7 @@ use Rattle.meaning.specs.declared.table.OfGateway.the-variants.{ResetGateway, C
 use Rattle.meaning.specs.declared.table.Kind.{Kind}
 use Rattle.meaning.specs.declared.table.Kind.the-variants as K
 use Rattle.meaning.specs.Call.{Call, command, Local, Try, Whom, nobody, gateway, one, Desk, refused, queued, Outcome}
-use Rattle.meaning.specs.Call.{judged, commandIn, kindIn, named, whom, lifted, fromDesk, heeded, tried, roomed, settled, step}
+use Rattle.meaning.specs.Call.{judged, kindIn, whom, lifted, fromDesk, heeded, tried, roomed, settled, step}
 use Rattle.demands.specs.Sound.{Sound}
 use Rattle.demands.specs.Demand.{Bounds}
 use Rattle.demands.specs.Counts.{isSweep, broomOf, broomKind, broomCall, broomFor, Sweeps}

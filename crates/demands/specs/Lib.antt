@@ -1,5 +1,5 @@
 pub mod Sound
+pub mod Order
 pub mod Demand
 pub mod Counts
 pub mod Wrong
-pub mod Order

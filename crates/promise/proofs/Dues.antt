@@ -42,26 +42,27 @@ unfolding fits charges
 fits-nodes b n w g h e = ap (λ (f : ℕ → M.Node). fits b n (join n w (record { name = g .name; nodes = f; reader = g .reader }))) e
 
 module _ (b : Bench) (m : Machine) (n : ℕ) (h : Gateway) (w : List ℕ) where
-  due-13 : fits b n (join n w h) ≡ false → (m′ : Machine) → m′ ≡ m → Does b (settled b (meaning b m) (Try.due n h w)) m (refused 13) m′
+  pub due-13 : fits b n (join n w h) ≡ false → (m′ : Machine) → m′ ≡ m → Does b (settled b (meaning b m) (Try.due n h w)) m (refused 13) m′
   unfolding settled roomed
   due-13 f m′ e =
       subst (λ (k : Machine). Does b (settled b (meaning b m) (Try.due n h w)) m (refused 13) k) (sym e)
       (subst (λ (t : Bool). Does b (roomed t (meaning b m) (join n w h)) m (refused 13) m) (sym f) (does-refused b m 13))
 
-  due-queued : fits b n (join n w h) ≡ true → (m′ : Machine) → Means b m′ (join n w h) → Does b (settled b (meaning b m) (Try.due n h w)) m queued m′
+  pub due-queued : fits b n (join n w h) ≡ true → (m′ : Machine) → Means b m′ (join n w h)
+      → Does b (settled b (meaning b m) (Try.due n h w)) m queued m′
   unfolding settled roomed turned
   due-queued f m′ e =
       subst (λ (t : Bool). Does b (roomed t (meaning b m) (join n w h)) m queued m′) (sym f) (does-said b m queued (join n w h) m′ refl e)
 
 -- the machine m₁ has the effect, and the answer was queued at a state with its nodes
 module _ (b : Bench) (ok : Sound b) (n i : ℕ) (is : isNode b n ≡ true) (slot : nodeSlot b n ≡ i) (w : List ℕ) (formed : wellFormed b (nodeAt b i) w ≡ true) where
-  room-due : (m₁ : Machine) (h : Gateway) → unfit b m₁ ≡ 0 → meaning b m₁ .nodes ≡ h .nodes
+  pub room-due : (m₁ : Machine) (h : Gateway) → unfit b m₁ ≡ 0 → meaning b m₁ .nodes ≡ h .nodes
       → fits b n (join n w h) ≡ roomFor b (heldsOf (m₁ .store) (m₁ .state .nodes)) i (length w)
   room-due m₁ h u e =
       sym (fits-nodes b n w (meaning b m₁) h e) ∙ room-same b m₁ n w is (parts b m₁ u) ok (formed-says b _ w formed)
       ∙ ap (λ (j : ℕ). roomFor b (heldsOf (m₁ .store) (m₁ .state .nodes)) j (length w)) slot
 
-  joins : (m₁ : Machine) (h : Gateway) → Means b m₁ h → (store′ : List ℕ) (s′ : State) → Added b (m₁ .store) store′ (m₁ .state) s′ i w
+  pub joins : (m₁ : Machine) (h : Gateway) → Means b m₁ h → (store′ : List ℕ) (s′ : State) → Added b (m₁ .store) store′ (m₁ .state) s′ i w
       → Means b (machine s′ store′ (m₁ .memory)) (join n w h)
   joins m₁ h e store′ s′ a =
       subst (λ (g : Gateway). Means b (machine s′ store′ (m₁ .memory)) (join n w g)) (e .means)

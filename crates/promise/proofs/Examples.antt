@@ -38,16 +38,15 @@ use Rattle.state.specs.Machine as S
 use Rattle.state.specs.Machine.{Machine, machine, meaning, nodeSlot, regionOf}
 use Rattle.state.specs.Consistent as Ok
 use Rattle.state.specs.Consistent.{unfit}
-use Rattle.state.specs.declared.State.{State}
 use Rattle.store.specs.Layout.{withNodes}
 use Rattle.store.specs.Joined.{Added}
 use Rattle.promise.specs.Obeyed as O
 use Rattle.promise.specs.Obeyed.{turned, expected, Obeyed}
-use Rattle.promise.specs.Runs.{Heard, Chain, calls, lines, freshMachine, reached}
+use Rattle.promise.specs.Runs.{Chain, calls, lines, reached}
 use Rattle.promise.specs.Examples.{zeroStore, zeroMemory, begun, visited, notFound, fourBytes, allCleared, holding, relieved}
 use Rattle.promise.specs.Examples.{withPlaque, withNotFound, withBoth, withOther, withFour, withNone, visit, visitAlone}
-use Rattle.promise.specs.Examples.{crowding, goingOn, goingOnSaid, crowdStart, crowd}
-use Rattle.promise.proofs.Parts.{parts, Means}
+use Rattle.promise.specs.Examples.{crowding, goingOn, goingOnSaid, crowdStart, crowd, Crowded}
+use Rattle.promise.proofs.Parts.{parts}
 use Rattle.promise.proofs.Promises.{saying, obeying}
 use Rattle.promise.proofs.Steps.{same-reader}
 use Rattle.promise.proofs.Rooms.{added-changed}
@@ -57,6 +56,7 @@ use Rattle.promise.proofs.Plaques.{arrived-0, left-14}
 use Rattle.promise.proofs.Oldest.{collect-obeyed, acked-0}
 use Rattle.promise.proofs.Chains.{fresh-fit, struck-chain}
 use Rattle.promise.proofs.Demands.{struck-end}
+use Rattle.promise.proofs.Possible.{chain-exists}
 
 -- ---- an answer made on a machine that is written out
 record Queues (m : Machine) (n : ℕ) (w : List ℕ) (c : Call) (m′ : Machine) : Type 0 where
@@ -263,3 +263,21 @@ crowd-ease = ease-by full 1 crowdStart (crowding ++ goingOn) (computed .crowds)
 pub crowd-struck : kept (ofOurs full 1) (log full 1 crowdStart (crowding ++ goingOn))
     ≡ log full 1 crowdStart (struck full 1 (crowding ++ goingOn))
 crowd-struck = strike-out full full-sound 1 (regionOf full zeroMemory) (crowding ++ goingOn) crowd-ease
+
+-- .. and the code has such chains, in which it never notices them either
+pub crowd-code : Crowded
+crowd-code =
+    let (hs, e, c) = chain-exists (crowding ++ goingOn) begun in
+    let (js, f, d) = chain-exists (struck full 1 (crowding ++ goingOn)) begun in
+    let q : calls js ≡ struck full 1 (calls hs) = f ∙ ap (struck full 1) (sym e) in
+    let z : Ease full 1 crowdStart (calls hs) = subst (Ease full 1 crowdStart) (sym e) crowd-ease in
+    record {
+      among = hs;
+      alone = js;
+      calls-among = e;
+      calls-alone = f;
+      chain-among = c;
+      chain-alone = d;
+      same-lines = struck-chain 1 zeroStore zeroMemory refl refl hs js c d q z;
+      same-end = struck-end 1 zeroStore zeroMemory refl refl hs js c d q z;
+    }

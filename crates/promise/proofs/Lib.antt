@@ -15,8 +15,9 @@ pub mod Only
 pub mod Faults
 pub mod Chains
 pub mod Demands
-pub mod Sixteen
+pub mod Possible
 pub mod Examples
+pub mod Sixteen
 pub mod Locals
 pub mod Commands
 pub mod Accepted

@@ -2,6 +2,7 @@
 -- chain with another reader's calls struck out, and a run in which reader 1 stays at ease while other nodes stand at 804 words.
 -- Assumes nothing.
 use Prim.Native.Nat.{ℕ}
+use mathlib.Core.Path.{_≡_}
 use mathlib.Core.Bool.{true}
 use mathlib.Core.List.{List, [], _∷_, _++_}
 use lib.ListN.{replicate}
@@ -10,12 +11,13 @@ use Rattle.meaning.specs.Bench.{full}
 use Rattle.meaning.specs.Cases.{search, reads}
 use Rattle.meaning.specs.CasesOfCalls.{cmd, idA, clears, getsName}
 use Rattle.meaning.specs.Gateway.{Gateway, fresh}
-use Rattle.meaning.specs.Call.{Call, arrive, leave, collect, acknowledge, Said, refused, answered, queued, done, handed, step, run}
+use Rattle.meaning.specs.Call.{Call, arrive, leave, collect, acknowledge, Said, refused, answered, queued, done, handed, run}
+use Rattle.demands.specs.Demand.{kept, stays, struck, Same}
 use Rattle.state.specs.State.{freshReader, freshNode, freshState, off, noReport, noAnswers}
 use Rattle.state.specs.Machine.{Machine, machine, regionOf}
 use Rattle.state.specs.declared.reader.Reader.{Reader}
 use Rattle.state.specs.declared.node.Node.{Node}
-use Rattle.promise.specs.Runs.{Heard, freshMachine}
+use Rattle.promise.specs.Runs.{Heard, Chain, calls, lines, freshMachine, reached}
 
 -- ---- the machines: lent is a store of zeros and a plaque memory of zeros
 abbrev pub zeroStore : List ℕ
@@ -135,3 +137,15 @@ crowdStart = fresh (regionOf full zeroMemory)
 
 abbrev pub crowd : Gateway
 crowd = run full crowdStart crowding
+
+-- two chains of the code from a fresh machine: one of these calls, and one without those for readers 3 to 5. Reader 1's lines are the
+-- same in both, and so is its part at the end
+pub record Crowded : Type 0 where
+  pub among : List Heard
+  pub alone : List Heard
+  pub calls-among : calls among ≡ crowding ++ goingOn
+  pub calls-alone : calls alone ≡ struck full 1 (crowding ++ goingOn)
+  pub chain-among : Chain full begun among
+  pub chain-alone : Chain full begun alone
+  pub same-lines : kept (λ l. stays full 1 (l .call)) (lines full 1 among) ≡ lines full 1 alone
+  pub same-end : Same 1 (reached zeroStore zeroMemory among) (reached zeroStore zeroMemory alone)
