@@ -2,63 +2,102 @@
 -- Assumes nothing.
 use Prim.Native.Nat.{ℕ, _+_, _-_, _%_, _≤_, _<_}
 use mathlib.Core.Path.{_≡_, refl, sym, ap, subst, _∙_}
-use mathlib.Core.Bool.{true, false, _&&_, false≢true}
+use mathlib.Core.Bool.{Bool, true, false, cond, _&&_}
 use mathlib.Core.List.{List, [], _∷_}
 use native.Mathlib.Omega.{arith}
 use lib.ListN.{length, getD, take, drop}
 use lib.Seq.{getD-drop, drop-drop}
-use Rattle.units.proofs.Choice.{and-true}
+use Rattle.units.proofs.Choice.{yes-cond, and-true}
 use Rattle.dialog.specs.Fields.{valueOf, numberOk}
-use Rattle.dialog.specs.Spoken.{numbersOk, aNode, aStamp, number, stampFrom}
+use Rattle.dialog.specs.Spoken.{numbersOk, aNode, aStamp, field, number, stampFrom}
 use Rattle.dialog.proofs.FieldLaws.{nowise, IsNumber, number-is, of-number}
 use Rattle.dialog.proofs.SpokenLaws.{one-number, no-number, stamp-numbers}
 use Rattle.fields.specs.declared.number.Number.{Number}
 use Rattle.fields.specs.declared.number.NumberRead.{NumberRead}
 use Rattle.fields.specs.declared.number.NodeRead.{NodeRead}
 use Rattle.fields.specs.declared.number.StampRead.{StampRead}
-use Rattle.fields.specs.FieldsAt.{fieldsFrom, FieldAt, NumberIn, NumberAt, NodeAt, StampAt}
-use Rattle.fields.proofs.Places.{from-past}
+use Rattle.fields.specs.FieldsAt.{fieldsFrom, FieldAt, numberIn, numberAt, nodeAt, stampAt}
+use Rattle.fields.proofs.Places.{from-past, after-field, after-past, after-rest}
 
 -- ---- a field
 module _ (most : ℕ) (f : List ℕ) where
-  pub none-in : (r : Number) → r ≡ record { ok = false; value = 0 } → (IsNumber most f → ⊥) → NumberIn most f r
-  none-in r e h =
-      subst (λ (x : Number). NumberIn most f x) (sym e)
-      (record { ok = sym (nowise (numberOk most f) (λ t. h (of-number most f t))); value = λ t. absurd (false≢true t); few = omega arith })
+  pub none-in : (r : Number) → r ≡ record { ok = false; value = 0 } → (IsNumber most f → ⊥) → r ≡ numberIn most f
+  unfolding numberIn
+  none-in r e h = let no : numberOk most f ≡ false = nowise (numberOk most f) (λ t. h (of-number most f t)) in e ∙ rw no
 
-  pub one-in : (v : ℕ) → IsNumber most f → v ≡ valueOf f → NumberIn most f (record { ok = true; value = v })
-  one-in v n e = record {
-    ok = sym (number-is most f (n .least) (n .short) (n .digits) (n .few));
-    value = λ t. e;
-    few = subst (λ (x : ℕ). x ≤ most) (sym e) (n .few);
-  }
+  pub one-in : (v : ℕ) → IsNumber most f → v ≡ valueOf f → record { ok = true; value = v } ≡ numberIn most f
+  unfolding numberIn
+  one-in v n e =
+      let yes : numberOk most f ≡ true = number-is most f (n .least) (n .short) (n .digits) (n .few) in
+      rw (yes, e)
+
+  value-in : numberOk most f ≡ true → numberIn most f .value ≡ valueOf f
+  unfolding numberIn
+  value-in e = yes-cond 0 e
+
+  few-in : numberIn most f .value ≤ most
+  unfolding numberIn
+  few-in = go (numberOk most f) refl
+    where
+      go : (t : Bool) → numberOk most f ≡ t → cond t (valueOf f) 0 ≤ most
+      go true e = of-number most f e .few
+      go false e = omega arith
 
 -- ---- the field at a place
+module _ (most : ℕ) where
+  -- no field is an empty field
+  empty-in : numberIn most [] ≡ record { ok = false; value = 0 }
+  unfolding numberIn numberOk
+  empty-in = refl
+
+  first-number : (fs : List (List ℕ)) → numberIn most (field fs 0) .ok ≡ numbersOk (most ∷ []) fs
+  unfolding numberIn
+  first-number [] = ap (λ (n : Number). n .ok) empty-in ∙ sym (no-number most)
+  first-number (f ∷ fs) = sym (one-number most f fs)
+
+read-by : (n k : Number) (p q : ℕ) → n ≡ k → p ≡ q
+    → _≡_ {A = NumberRead} (record { ok = n .ok; value = n .value; next = p }) (record { ok = k .ok; value = k .value; next = q })
+read-by n k p q e f = rw (e, f)
+
 module _ (line : List ℕ) where
-  pub number-at : (most at e : ℕ) (n : Number) → FieldAt line at e → NumberIn most (take (e - at) (drop at line)) n
-      → NumberAt most line at (record { ok = n .ok; value = n .value; next = e + 1 })
-  number-at most at e n f i = record {
-    ok = i .ok ∙ sym (ap (numbersOk (most ∷ [])) (f .first) ∙ one-number most _ _);
-    value = λ t. i .value t ∙ sym (ap (λ (fs : List (List ℕ)). number fs 0) (f .first));
-    rest = sym (ap (drop 1) (f .first));
-    few = i .few;
-  }
+  pub number-at : (most at e : ℕ) (n : Number) → FieldAt line at e → n ≡ numberIn most (take (e - at) (drop at line))
+      → record { ok = n .ok; value = n .value; next = e + 1 } ≡ numberAt most line at
+  unfolding numberAt
+  number-at most at e n f i =
+      read-by n _ (e + 1) _ (i ∙ ap (λ (fs : List (List ℕ)). numberIn most (field fs 0)) (sym (f .first))) (sym (after-field line at e f))
 
-  pub past-at : (most at : ℕ) → length line < at → NumberAt most line at (record { ok = false; value = 0; next = at })
+  pub past-at : (most at : ℕ) → length line < at → record { ok = false; value = 0; next = at } ≡ numberAt most line at
+  unfolding numberAt
   past-at most at h =
-      let e : fieldsFrom line at ≡ [] = from-past line at h in record {
-        ok = sym (ap (numbersOk (most ∷ [])) e ∙ no-number most);
-        value = λ t. absurd (false≢true t);
-        rest = e ∙ sym (ap (drop 1) e);
-        few = omega arith;
-      }
+      read-by (record { ok = false; value = 0 }) _ at _
+      (sym (ap (λ (fs : List (List ℕ)). numberIn most (field fs 0)) (from-past line at h) ∙ empty-in most)) (sym (after-past line at h))
 
-  pub node-at : (at : ℕ) (n : NumberRead) → NumberAt 255 line at n → NodeAt line at (record { ok = n .ok; node = n .value % 256; next = n .next })
-  node-at at n a = record {
-    ok = a .ok;
-    value = λ t. let small : n .value % 256 ≡ n .value = omega (arith, a .few) in small ∙ a .value t;
-    rest = a .rest;
-  }
+  -- what is known of it
+  number-ok : (most at : ℕ) → numberAt most line at .ok ≡ numbersOk (most ∷ []) (fieldsFrom line at)
+  unfolding numberAt
+  number-ok most at = first-number most (fieldsFrom line at)
+
+  number-value : (most at : ℕ) → numberAt most line at .ok ≡ true → numberAt most line at .value ≡ number (fieldsFrom line at) 0
+  unfolding numberAt numberIn
+  number-value most at e = value-in most (field (fieldsFrom line at) 0) e
+
+  number-rest : (most at : ℕ) → fieldsFrom line (numberAt most line at .next) ≡ drop 1 (fieldsFrom line at)
+  unfolding numberAt
+  number-rest most at = after-rest line at
+
+  number-few : (most at : ℕ) → numberAt most line at .value ≤ most
+  unfolding numberAt
+  number-few most at = few-in most (field (fieldsFrom line at) 0)
+
+  pub few-at : (most at : ℕ) {n : NumberRead} → n ≡ numberAt most line at → n .value ≤ most
+  few-at most at e = rw e (number-few most at)
+
+  pub node-at : (at : ℕ) (n : NumberRead) → n ≡ numberAt 255 line at
+      → record { ok = n .ok; node = n .value % 256; next = n .next } ≡ nodeAt line at
+  unfolding nodeAt
+  node-at at n e =
+      let small : n .value % 256 ≡ n .value = omega (arith, few-at 255 at e) in
+      rw (small, e)
 
 -- ---- the same where k fields came before
 plus : (k i : ℕ) → k + i ≡ k + 0 + i
@@ -73,24 +112,25 @@ module _ (line : List ℕ) (fs : List (List ℕ)) where
     pub value : n .ok ≡ true → n .node ≡ number fs (k + 0)
     pub rest : fieldsFrom line (n .next) ≡ drop (k + 1) fs
 
-  pub node-is : (k p : ℕ) (n : NodeRead) → fieldsFrom line p ≡ drop k fs → NodeAt line p n → NodeIs k n
-  node-is k p n e a = record {
-    ok = a .ok ∙ ap (numbersOk aNode) e;
-    value = λ t. a .value t ∙ ap (λ (gs : List (List ℕ)). number gs 0) e ∙ ap valueOf (getD-drop k fs 0 []);
-    rest = rest-then k p (n .next) 1 e (a .rest);
-  }
+  pub node-is : (k p : ℕ) (n : NodeRead) → fieldsFrom line p ≡ drop k fs → n ≡ nodeAt line p → NodeIs k n
+  unfolding nodeAt
+  node-is k p n e a = subst (NodeIs k) (sym a) (record {
+    ok = number-ok line 255 p ∙ ap (numbersOk aNode) e;
+    value = λ t. number-value line 255 p t ∙ ap (λ (gs : List (List ℕ)). number gs 0) e ∙ ap valueOf (getD-drop k fs 0 []);
+    rest = rest-then k p _ 1 e (number-rest line 255 p);
+  })
 
   pub record NumberIs (most k : ℕ) (n : NumberRead) : Type 0 where
     pub ok : n .ok ≡ numbersOk (most ∷ []) (drop k fs)
     pub value : n .ok ≡ true → n .value ≡ number fs (k + 0)
     pub rest : fieldsFrom line (n .next) ≡ drop (k + 1) fs
 
-  pub number-is-at : (most k p : ℕ) (n : NumberRead) → fieldsFrom line p ≡ drop k fs → NumberAt most line p n → NumberIs most k n
-  number-is-at most k p n e a = record {
-    ok = a .ok ∙ ap (numbersOk (most ∷ [])) e;
-    value = λ t. a .value t ∙ ap (λ (gs : List (List ℕ)). number gs 0) e ∙ ap valueOf (getD-drop k fs 0 []);
-    rest = rest-then k p (n .next) 1 e (a .rest);
-  }
+  pub number-is-at : (most k p : ℕ) (n : NumberRead) → fieldsFrom line p ≡ drop k fs → n ≡ numberAt most line p → NumberIs most k n
+  number-is-at most k p n e a = subst (NumberIs most k) (sym a) (record {
+    ok = number-ok line most p ∙ ap (numbersOk (most ∷ [])) e;
+    value = λ t. number-value line most p t ∙ ap (λ (gs : List (List ℕ)). number gs 0) e ∙ ap valueOf (getD-drop k fs 0 []);
+    rest = rest-then k p _ 1 e (number-rest line most p);
+  })
 
   pub record StampIs (k : ℕ) (t : StampRead) : Type 0 where
     pub ok : t .ok ≡ numbersOk aStamp (drop k fs)
@@ -104,27 +144,21 @@ module _ (line : List ℕ) (fs : List (List ℕ)) where
       let z : getD (drop k fs) 0 [] ≡ getD fs (k + 0) [] = getD-drop k fs 0 [] in
       rw (z, shift 1, shift 2, shift 3, shift 4)
 
-  pub stamp-is-at : (k p : ℕ) (t : StampRead) → fieldsFrom line p ≡ drop k fs → StampAt line p t → StampIs k t
-  stamp-is-at k p t e a = record {
-    ok = a .ok ∙ ap (numbersOk aStamp) e;
-    value = λ h. a .value h ∙ ap (λ (gs : List (List ℕ)). stampFrom gs 0) e ∙ stamp-after k;
-    rest = rest-then k p (t .next) 5 e (a .rest);
-  }
-
--- five nodes, one after another
-pub stamp-at : (line : List ℕ) (at : ℕ) (m d h n s : NodeRead) → NodeAt line at m → NodeAt line (m .next) d → NodeAt line (d .next) h → NodeAt line (h .next) n → NodeAt line (n .next) s
-    → StampAt line at (record {
-      ok = (((m .ok && d .ok) && h .ok) && n .ok) && s .ok;
-      stamp = record { month = m .node; day = d .node; hour = h .node; minute = n .node; second = s .node };
-      next = s .next;
-    })
-stamp-at line at m d h n s am ad ah an az =
-    let fs = fieldsFrom line at in
-    let im = node-is line fs 0 at m refl am in
-    let id = node-is line fs 1 (m .next) d (im .rest) ad in
-    let ih = node-is line fs 2 (d .next) h (id .rest) ah in
-    let in′ = node-is line fs 3 (h .next) n (ih .rest) an in
-    let is = node-is line fs 4 (n .next) s (in′ .rest) az in record {
+-- five nodes, one after another, are the stamp from their place on ..
+stamp-here : (line : List ℕ) (p : ℕ) → StampIs line (fieldsFrom line p) 0 (stampAt line p)
+unfolding stampAt
+stamp-here line p =
+    let fs : List (List ℕ) = fieldsFrom line p in
+    let m : NodeRead = nodeAt line p in
+    let d : NodeRead = nodeAt line (m .next) in
+    let h : NodeRead = nodeAt line (d .next) in
+    let n : NodeRead = nodeAt line (h .next) in
+    let s : NodeRead = nodeAt line (n .next) in
+    let im = node-is line fs 0 p m refl refl in
+    let id = node-is line fs 1 (m .next) d (im .rest) refl in
+    let ih = node-is line fs 2 (d .next) h (id .rest) refl in
+    let in′ = node-is line fs 3 (h .next) n (ih .rest) refl in
+    let is = node-is line fs 4 (n .next) s (in′ .rest) refl in record {
       ok = rw (im .ok, id .ok, ih .ok, in′ .ok, is .ok) (sym (stamp-numbers fs));
       value = λ t.
           let p₄ = and-true (((m .ok && d .ok) && h .ok) && n .ok) (s .ok) t in
@@ -134,3 +168,25 @@ stamp-at line at m d h n s am ad ah an az =
           rw (im .value (p₁ .0), id .value (p₁ .1), ih .value (p₂ .1), in′ .value (p₃ .1), is .value (p₄ .1));
       rest = is .rest;
     }
+
+-- .. also where k fields came before
+pub stamp-is-at : (line : List ℕ) (fs : List (List ℕ)) (k p : ℕ) (t : StampRead) → fieldsFrom line p ≡ drop k fs → t ≡ stampAt line p
+    → StampIs line fs k t
+stamp-is-at line fs k p t e a =
+    let h = stamp-here line p in
+    subst (StampIs line fs k) (sym a) (record {
+      ok = h .ok ∙ ap (numbersOk aStamp) e;
+      value = λ g. h .value g ∙ ap (λ (gs : List (List ℕ)). stampFrom gs 0) e ∙ stamp-after line fs k;
+      rest = rest-then line fs k p _ 5 e (h .rest);
+    })
+
+-- as the code reads it
+pub stamp-at : (line : List ℕ) (at : ℕ) (m d h n s : NodeRead) → m ≡ nodeAt line at → d ≡ nodeAt line (m .next) → h ≡ nodeAt line (d .next)
+    → n ≡ nodeAt line (h .next) → s ≡ nodeAt line (n .next)
+    → record {
+      ok = (((m .ok && d .ok) && h .ok) && n .ok) && s .ok;
+      stamp = record { month = m .node; day = d .node; hour = h .node; minute = n .node; second = s .node };
+      next = s .next;
+    } ≡ stampAt line at
+unfolding stampAt
+stamp-at line at m d h n s em ed eh en es = rw (es, en, eh, ed, em)

@@ -1,15 +1,21 @@
--- The fields from a place of a line on: where a field ends, and whether there is one more.
+-- The fields from a place of a line on: where a field ends, whether there is one more, and whether all are words.
 -- Assumes nothing.
-use Prim.Native.Nat.{ℕ, suc, _+_, _-_, _≤_, _<_}
+use Prim.Native.Nat.{ℕ, zero, suc, _+_, _-_, _≤_, _<_}
 use mathlib.Core.Path.{_≡_, sym, ap, _∙_}
+use mathlib.Core.Bool.{true, false}
 use mathlib.Core.List.{List, [], _∷_}
+use native.Mathlib.Decide.{decLe, ℕ-discrete}
 use native.Mathlib.Omega.{arith}
-use lib.ListN.{length, getD, take, drop, drop-of-length-le}
+use lib.ListN.{length, getD, take, drop, drop-of-length-le, length-drop}
+use lib.Seq.{length-take-le}
 use borrow.Author.Tests.{le-leb, lt-leb}
+use Rattle.units.specs.Count.{every}
 use Rattle.units.proofs.Choice.{yes-cond, no-cond}
-use Rattle.dialog.specs.Fields.{fields}
+use Rattle.dialog.specs.Fields.{fields, wordOk}
+use Rattle.dialog.specs.Spoken.{field}
 use Rattle.dialog.proofs.FieldLaws.{next, fields-some, fields-none, fields-blank, fields-more}
-use Rattle.fields.specs.FieldsAt.{fieldsFrom, FieldAt}
+use Rattle.fields.specs.FieldsAt.{fieldsFrom, FieldAt, placeAfter, wordsAt}
+use Rattle.fields.specs.declared.hex.WordsRead.{WordsRead}
 
 module _ (line : List ℕ) where
   pub from-in : (at : ℕ) → at ≤ length line → fieldsFrom line at ≡ fields (drop at line)
@@ -53,3 +59,54 @@ module _ (line : List ℕ) where
         least = omega arith;
         most = f .most;
       }
+
+  -- ---- the place after a field
+  pub after-field : (at r : ℕ) → FieldAt line at r → placeAfter line at ≡ r + 1
+  unfolding placeAfter
+  after-field at r f =
+      let in-line : at ≤ length line = omega (arith, f .least, f .most) in
+      let there : r - at ≤ length (drop at line) = omega (arith, f .most, length-drop at line) in
+      let long : length (field (fieldsFrom line at) 0) ≡ r - at =
+      ap (λ (fs : List (List ℕ)). length (field fs 0)) (f .first) ∙ length-take-le (r - at) (drop at line) there in
+      yes-cond at (le-leb at (length line) in-line) ∙ omega (arith, long, f .least)
+
+  pub after-past : (at : ℕ) → length line < at → placeAfter line at ≡ at
+  unfolding placeAfter
+  after-past at h = no-cond _ (lt-leb at (length line) h)
+
+  -- every field ends somewhere
+  ends : (k at : ℕ) → at + k ≡ length line → (r : ℕ) × FieldAt line at r
+  ends zero at e = (at, at-end at (omega arith))
+  ends (suc k) at e = elim (ℕ-discrete (getD line at 0) 32) [
+    | yes b ↦ (at, at-blank at (omega arith) b)
+    | no d ↦ let (r, f) = ends k (at + 1) (omega arith) in (r, at-other at r (omega arith) d f)
+  ]
+
+  -- so what stands from there on is the rest
+  pub after-rest : (at : ℕ) → fieldsFrom line (placeAfter line at) ≡ drop 1 (fieldsFrom line at)
+  after-rest at = elim (decLe at (length line)) [
+    | yes h ↦
+        let (r, f) = ends (length line - at) at (omega arith) in
+        ap (fieldsFrom line) (after-field at r f) ∙ sym (ap (drop 1) (f .first))
+    | no h ↦
+        let e : fieldsFrom line at ≡ [] = from-past at (omega arith) in
+        ap (fieldsFrom line) (after-past at (omega arith)) ∙ e ∙ sym (ap (drop 1) e)
+  ]
+
+  -- ---- the words from a place on
+  pub words-ok : (at : ℕ) {r : WordsRead} → r ≡ wordsAt line at → r .ok ≡ every wordOk (fieldsFrom line at)
+  unfolding wordsAt
+  words-ok at e = ap (λ (r : WordsRead). r .ok) e
+
+  pub words-count : (at : ℕ) {r : WordsRead} → r ≡ wordsAt line at → r .ok ≡ true → r .words .0 ≡ length (fieldsFrom line at)
+  unfolding wordsAt
+  words-count at e t = ap (λ (r : WordsRead). r .words .0) e ∙ yes-cond 0 (sym (words-ok at e) ∙ t)
+
+  pub no-words : (at : ℕ) → every wordOk (fieldsFrom line at) ≡ false → record { ok = false; words = record { 0 = 0 } } ≡ wordsAt line at
+  unfolding wordsAt
+  no-words at e = rw e
+
+  pub all-words : (at n : ℕ) → every wordOk (fieldsFrom line at) ≡ true → n ≡ length (fieldsFrom line at)
+      → record { ok = true; words = record { 0 = n } } ≡ wordsAt line at
+  unfolding wordsAt
+  all-words at n e k = rw (e, k)

@@ -2,14 +2,14 @@
 -- Assumes nothing.
 use Prim.Native.Nat.{ℕ, _+_, _-_, _≤_}
 use mathlib.Core.Path.{_≡_}
-use mathlib.Core.Bool.{true, cond}
+use mathlib.Core.Bool.{_&&_, cond}
 use mathlib.Core.List.{List, [], _∷_, map}
 use lib.Dec.{leb}
 use lib.ListN.{length, take, drop}
 use Rattle.units.specs.Count.{every}
 use Rattle.meaning.specs.Call.{same}
 use Rattle.dialog.specs.Fields.{fields, valueOf, numberOk, wordOk, wordOf}
-use Rattle.dialog.specs.Spoken.{number, stampFrom, numbersOk, aNode, aStamp}
+use Rattle.dialog.specs.Spoken.{field}
 use Rattle.text.specs.Text.{ascii}
 use Rattle.fields.specs.declared.field.Verb.{Verb}
 use Rattle.fields.specs.declared.number.Number.{Number}
@@ -36,32 +36,46 @@ pub record FieldAt (line : List ℕ) (at r : ℕ) : Type 0 where
   pub least : at ≤ r
   pub most : r ≤ length line
 
-pub record NumberIn (most : ℕ) (f : List ℕ) (r : Number) : Type 0 where
-  pub ok : r .ok ≡ numberOk most f
-  pub value : r .ok ≡ true → r .value ≡ valueOf f
-  pub few : r .value ≤ most
+-- the place of the field after it: past the line's end where it is the last, and where there is none, the place itself
+unfoldable pub placeAfter : List ℕ → ℕ → ℕ
+placeAfter line at = cond (leb at (length line)) (at + length (field (fieldsFrom line at) 0) + 1) at
 
--- numbers at the fields from a place on, each within its limit, and where the fields after them are
-pub record NumberAt (most : ℕ) (line : List ℕ) (at : ℕ) (r : NumberRead) : Type 0 where
-  pub ok : r .ok ≡ numbersOk (most ∷ []) (fieldsFrom line at)
-  pub value : r .ok ≡ true → r .value ≡ number (fieldsFrom line at) 0
-  pub rest : fieldsFrom line (r .next) ≡ drop 1 (fieldsFrom line at)
-  pub few : r .value ≤ most
+-- ---- What is read of any line at any place, whole: where a field is no number within its limit, as where there is none, the value is 0.
+unfoldable pub numberIn : ℕ → List ℕ → Number
+numberIn most f = record { ok = numberOk most f; value = cond (numberOk most f) (valueOf f) 0 }
 
-pub record NodeAt (line : List ℕ) (at : ℕ) (r : NodeRead) : Type 0 where
-  pub ok : r .ok ≡ numbersOk aNode (fieldsFrom line at)
-  pub value : r .ok ≡ true → r .node ≡ number (fieldsFrom line at) 0
-  pub rest : fieldsFrom line (r .next) ≡ drop 1 (fieldsFrom line at)
+unfoldable pub numberAt : ℕ → List ℕ → ℕ → NumberRead
+numberAt most line at =
+    let n = numberIn most (field (fieldsFrom line at) 0) in
+    record { ok = n .ok; value = n .value; next = placeAfter line at }
 
-pub record StampAt (line : List ℕ) (at : ℕ) (r : StampRead) : Type 0 where
-  pub ok : r .ok ≡ numbersOk aStamp (fieldsFrom line at)
-  pub value : r .ok ≡ true → r .stamp ≡ stampFrom (fieldsFrom line at) 0
-  pub rest : fieldsFrom line (r .next) ≡ drop 5 (fieldsFrom line at)
+unfoldable pub nodeAt : List ℕ → ℕ → NodeRead
+nodeAt line at = let n = numberAt 255 line at in record { ok = n .ok; node = n .value; next = n .next }
 
--- the words from a place on
+-- five of these, one after another
+unfoldable pub stampAt : List ℕ → ℕ → StampRead
+stampAt line at =
+    let month = nodeAt line at in
+    let day = nodeAt line (month .next) in
+    let hour = nodeAt line (day .next) in
+    let minute = nodeAt line (hour .next) in
+    let second = nodeAt line (minute .next) in record {
+      ok = month .ok && day .ok && hour .ok && minute .ok && second .ok;
+      stamp = record {
+        month = month .node;
+        day = day .node;
+        hour = hour .node;
+        minute = minute .node;
+        second = second .node;
+      };
+      next = second .next;
+    }
+
+-- the words from a place on; where one is none, none is counted
 abbrev pub wordsFrom : List ℕ → ℕ → List ℕ
 wordsFrom line at = map wordOf (fieldsFrom line at)
 
-pub record WordsAt (line : List ℕ) (at : ℕ) (r : WordsRead) : Type 0 where
-  pub ok : r .ok ≡ every wordOk (fieldsFrom line at)
-  pub count : r .ok ≡ true → r .words .0 ≡ length (fieldsFrom line at)
+unfoldable pub wordsAt : List ℕ → ℕ → WordsRead
+wordsAt line at =
+    let ok = every wordOk (fieldsFrom line at) in
+    record { ok = ok; words = record { 0 = cond ok (length (fieldsFrom line at)) 0 } }

@@ -11,7 +11,7 @@ ghost use lib.ListN.{length};
 ghost use Rattle.units.specs.Count.{every};
 ghost use Rattle.units.specs.Packing.{onto};
 ghost use Rattle.dialog.specs.Fields.{isHex, hexDigit, wordOk, wordOf, bytesOk, bytesOf};
-ghost use Rattle.fields.specs.FieldsAt.{fieldsFrom, WordsAt, wordsFrom};
+ghost use Rattle.fields.specs.FieldsAt.{fieldsFrom, wordsAt, wordsFrom};
 
 // How many fields from a place on are words, where all are.
 pub struct WordsRead {
@@ -83,7 +83,7 @@ fn word_of(field: &[u8]) -> u16
 
 // The words from a place to the line's end, counted.
 pub fn count_words(line: &[u8], at: usize) -> WordsRead
-    ensures { λ r. ⌜ WordsAt (now (line .entry)) at r ⌝ }
+    ensures { λ r. ⌜ r ≡ wordsAt (now (line .entry)) at ⌝ }
 {
     let mut from = at;
     let mut n = 0;

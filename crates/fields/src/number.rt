@@ -4,7 +4,7 @@ use units::stamp::Stamp;
 ghost use mathlib.Core.Path.{_≡_};
 ghost use mathlib.Core.Bool.{false, _&&_};
 ghost use Rattle.units.specs.Count.{within};
-ghost use Rattle.fields.specs.FieldsAt.{NumberIn, NumberAt, NodeAt, StampAt};
+ghost use Rattle.fields.specs.FieldsAt.{numberIn, numberAt, nodeAt, stampAt};
 
 // Whether a field is a number within its limit, and which.
 pub struct Number {
@@ -57,7 +57,7 @@ fn no_number() -> Number
 }
 
 fn number_of(field: &[u8], most: u32) -> Number
-    ensures { λ r. ⌜ NumberIn most (now (field .entry)) r ⌝ }
+    ensures { λ r. ⌜ r ≡ numberIn most (now (field .entry)) ⌝ }
 {
     let n = field.len();
     if n < 1 {
@@ -86,7 +86,7 @@ fn number_of(field: &[u8], most: u32) -> Number
 }
 
 pub fn read_number(line: &[u8], at: usize, most: u32) -> NumberRead
-    ensures { λ r. ⌜ NumberAt most (now (line .entry)) at r ⌝ }
+    ensures { λ r. ⌜ r ≡ numberAt most (now (line .entry)) at ⌝ }
 {
     if line.len() < at {
         return NumberRead {
@@ -105,7 +105,7 @@ pub fn read_number(line: &[u8], at: usize, most: u32) -> NumberRead
 }
 
 pub fn read_node(line: &[u8], at: usize) -> NodeRead
-    ensures { λ r. ⌜ NodeAt (now (line .entry)) at r ⌝ }
+    ensures { λ r. ⌜ r ≡ nodeAt (now (line .entry)) at ⌝ }
 {
     let n = read_number(line, at, 255);
     NodeRead {
@@ -116,7 +116,7 @@ pub fn read_node(line: &[u8], at: usize) -> NodeRead
 }
 
 pub fn read_stamp(line: &[u8], at: usize) -> StampRead
-    ensures { λ r. ⌜ StampAt (now (line .entry)) at r ⌝ }
+    ensures { λ r. ⌜ r ≡ stampAt (now (line .entry)) at ⌝ }
 {
     let month = read_node(line, at);
     let day = read_node(line, month.next);

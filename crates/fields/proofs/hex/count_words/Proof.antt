@@ -3,7 +3,7 @@
 use mathlib.Core.Path.{_≡_, refl, sym, ap, _∙_}
 use denote.Ref.{now}
 use native.Mathlib.Omega.{arith}
-use Rattle.fields.proofs.Places.{from-past}
+use Rattle.fields.proofs.Places.{from-past, no-words, all-words}
 use Rattle.fields.specs.FieldsAt.{fieldsFrom}
 use Prim.Native.Nat.{_+_, _-_, _≤_}
 use lib.ListN.{length}
@@ -12,7 +12,6 @@ use Rattle.units.proofs.Choice.{yes-and, no-and}
 use Rattle.dialog.specs.Fields.{wordOk}
 use Rattle.dialog.proofs.FieldLaws.{every-cons, every-none}
 use borrow.Author.Tests.{not-true, not-false}
-use mathlib.Core.Bool.{false≢true}
 use Rattle.fields.proofs.hex.count_words.Statement.{statement}
 use Rattle.fields.proofs.hex.count_words.Tie as tie
 
@@ -41,7 +40,12 @@ is-word-requires : tie.Need-is-word-requires Inv-loop μ-loop
 is-word-requires c κs = tt
 
 returns : tie.Need-returns Inv-loop μ-loop
-returns c = record { ok = sym (c .before .before .before .before .before .loop .inv .1 ∙ ap (every wordOk) (c .before .before .before .field-end .ensures .first) ∙ every-cons wordOk _ _ ∙ no-and _ (sym (c .before .is-word .ensures) ∙ not-true _ (c .if1 .taken))); count = λ t. absurd (false≢true t) }
+returns c =
+    let a = c .before .before .before .before .before .before .before .args in
+    let l = c .before .before .before .before .before .loop in
+    no-words (now (a .line)) (a .at)
+    (l .inv .1 ∙ ap (every wordOk) (c .before .before .before .field-end .ensures .first) ∙ every-cons wordOk _ _
+    ∙ no-and _ (sym (c .before .is-word .ensures) ∙ not-true _ (c .if1 .taken)))
 
 add-n : tie.Need-add-n Inv-loop μ-loop
 add-n c = omega (arith, c .before .before .before .field-end .ensures .most)
@@ -56,7 +60,11 @@ loop-again : tie.Need-loop-again Inv-loop μ-loop
 loop-again c = (omega (arith, c .before .before .before .field-end .ensures .least), c .before .before .before .before .before .loop .inv .1 ∙ ap (every wordOk) (c .before .before .before .field-end .ensures .first) ∙ every-cons wordOk _ _ ∙ yes-and (sym (c .before .is-word .ensures) ∙ not-false _ (c .if1 .left)), omega (arith, ap length (c .before .before .before .field-end .ensures .first), c .before .before .before .before .before .loop .inv .2))
 
 returns-2 : tie.Need-returns-2 Inv-loop μ-loop
-returns-2 c = let e = from-past (now (c .before .before .before .args .line)) (c .before .loop .from) (omega arith) in record { ok = sym (c .before .loop .inv .1 ∙ ap (every wordOk) e ∙ every-none wordOk); count = λ t. omega (arith, ap length e, c .before .loop .inv .2) }
+returns-2 c =
+    let a = c .before .before .before .args in
+    let l = c .before .loop in
+    let e = from-past (now (a .line)) (l .from) (omega arith) in
+    all-words (now (a .line)) (a .at) (l .n) (l .inv .1 ∙ ap (every wordOk) e ∙ every-none wordOk) (omega (arith, ap length e, l .inv .2))
 
 pub count-words-spec : {M : Type 1} → statement M
 count-words-spec =

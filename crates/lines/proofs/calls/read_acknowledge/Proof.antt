@@ -8,7 +8,7 @@ use borrow.Author.Tests.{not-true, not-false}
 use Rattle.dialog.proofs.FieldLaws.{clash}
 use Rattle.fields.specs.FieldsAt.{fieldsFrom}
 use Rattle.lines.proofs.Found.{no-more, one-more, same-small, acknowledge-heard, acknowledge-unheard}
-use Rattle.fields.proofs.Numbers.{node-is, number-is-at}
+use Rattle.fields.proofs.Numbers.{few-at, node-is, number-is-at}
 use Rattle.dialog.proofs.SpokenLaws.{numbers-enough, number-wider}
 use mathlib.Core.List.{[], _∷_}
 use lib.ListN.{drop, length-drop}
@@ -60,7 +60,7 @@ returns-3 c =
       two = omega (arith, no-more line fs 2 (c .before .before .before .before .before .before .read-number .result .next) (k .rest) (omega arith), numbers-enough (65535 ∷ []) (drop 1 fs) q, length-drop 1 fs);
     })
     (n .value ok)
-    (same-small _ 65535 (c .before .before .before .before .before .before .read-number .ensures .few) ∙ k .value kok)
+    (same-small _ 65535 (few-at line _ _ (c .before .before .before .before .before .before .read-number .ensures)) ∙ k .value kok)
 
 pub read-acknowledge-spec : {M : Type 1} → statement M
 read-acknowledge-spec =

@@ -9,6 +9,7 @@ use Rattle.dialog.proofs.FieldLaws.{clash}
 use Rattle.fields.specs.FieldsAt.{fieldsFrom}
 use Rattle.fields.specs.declared.field.FormRead.{FormRead}
 use Rattle.lines.proofs.Found.{no-more, field-is, command-heard, command-words, command-unheard}
+use Rattle.fields.proofs.Places.{words-ok, words-count}
 use Rattle.fields.proofs.Numbers.{stamp-is-at}
 use Rattle.dialog.proofs.SpokenLaws.{IsCommand, form-there}
 use Prim.Native.Nat.{ℕ}
@@ -70,7 +71,8 @@ returns-3 c =
     let fs = fieldsFrom line (c .before .before .before .before .before .before .before .before .before .before .before .before .before .before .before .args .at) in
     let t = stamp-is-at line fs 0 (c .before .before .before .before .before .before .before .before .before .before .before .before .before .before .before .args .at) _ refl (c .before .before .before .before .before .before .before .before .before .before .before .before .read-stamp .ensures) in
     let e = field-is line fs 5 _ _ (t .rest) (c .before .before .before .before .before .before .before .field-end .ensures) in
-    command-unheard fs _ (λ f. clash (c .before .before .count-words .ensures .ok ∙ ap (every wordOk) (e .rest)) (not-true _ (c .if4 .taken)) (f .words))
+    let w = words-ok line _ (c .before .before .count-words .ensures) ∙ ap (every wordOk) (e .rest) in
+    command-unheard fs _ (λ f. clash w (not-true _ (c .if4 .taken)) (f .words))
 
 returns-4 : tie.Need-returns-4
 returns-4 c =
@@ -78,14 +80,16 @@ returns-4 c =
     let fs = fieldsFrom line (c .before .before .before .before .before .before .before .before .before .before .before .before .before .before .before .before .args .at) in
     let t = stamp-is-at line fs 0 (c .before .before .before .before .before .before .before .before .before .before .before .before .before .before .before .before .args .at) _ refl (c .before .before .before .before .before .before .before .before .before .before .before .before .before .read-stamp .ensures) in
     let e = field-is line fs 5 _ _ (t .rest) (c .before .before .before .before .before .before .before .before .field-end .ensures) in
-    let n = c .before .before .before .count-words .ensures .count (not-false _ (c .before .if4 .left)) ∙ ap length (e .rest) in
+    let wok = not-false _ (c .before .if4 .left) in
+    let n = words-count line _ (c .before .before .before .count-words .ensures) wok ∙ ap length (e .rest) in
     command-unheard fs _ (λ f. omega (arith, n, f .few))
 
 add-put-words : tie.Need-add-put-words
 add-put-words c = search needs
 
 put-words-requires : tie.Need-put-words-requires
-put-words-requires c κs = sym (c .before .before .before .before .count-words .ensures .ok) ∙ not-false _ (c .before .before .if4 .left)
+put-words-requires c κs =
+    sym (words-ok _ _ (c .before .before .before .before .count-words .ensures)) ∙ not-false _ (c .before .before .if4 .left)
 
 same-length : tie.Need-same-length
 same-length c = search needs
@@ -98,12 +102,13 @@ returns-5 c =
     let e = field-is line fs 5 _ _ (t .rest) (c .before .before .before .before .before .before .before .before .before .before .before .before .before .before .field-end .ensures) in
     let ok = not-false _ (c .before .before .before .before .before .before .before .before .before .before .before .before .before .before .before .before .before .if1 .left) in
     let wok = not-false _ (c .before .before .before .before .before .before .before .if4 .left) in
-    let n = c .before .before .before .before .before .before .before .before .before .count-words .ensures .count wok ∙ ap length (e .rest) in
+    let counted = c .before .before .before .before .before .before .before .before .before .count-words .ensures in
+    let n = words-count line _ counted wok ∙ ap length (e .rest) in
     let a : IsCommand fs = record {
       stamp = sym (t .ok) ∙ ok;
       form = ap isForm (e .is) ∙ sym (ap (λ (r : FormRead). r .ok) (c .before .before .before .before .before .before .before .before .before .before .before .before .form-of .ensures)) ∙ not-false _ (c .before .before .before .before .before .before .before .before .before .before .if3 .left);
       few = omega (arith, n);
-      words = sym (ap (every wordOk) (e .rest)) ∙ sym (c .before .before .before .before .before .before .before .before .before .count-words .ensures .ok) ∙ wok;
+      words = sym (ap (every wordOk) (e .rest)) ∙ sym (words-ok line _ counted) ∙ wok;
     } in (
       command-heard fs _ _ _ a (t .value ok)
           (ap (λ (r : FormRead). r .form) (c .before .before .before .before .before .before .before .before .before .before .before .before .form-of .ensures) ∙ ap formOf (sym (e .is)))
