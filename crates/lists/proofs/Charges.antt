@@ -57,14 +57,14 @@ pub bounded-at : (b : Bench) (hs : List ℕ) → bounded b hs ≡ true → (i : 
 unfolding bounded
 bounded-at b hs h = limit-at (b .limit) hs (and-true (limited (b .limit) hs) _ h .0)
 
--- each of a list of counts stays below a bound where one of them is set below it
-pub set-below : (l : List ℕ) (i v b : ℕ) → v < b → ((j : ℕ) → j < length l → getD l j 0 < b) → (j : ℕ) → j < length l
-    → getD (set l i v) j 0 < b
-set-below [] i v b h f j g = absurd (omega arith)
-set-below (x ∷ l) zero v b h f zero g = h
-set-below (x ∷ l) zero v b h f (suc j) g = f (suc j) g
-set-below (x ∷ l) (suc i) v b h f zero g = f zero g
-set-below (x ∷ l) (suc i) v b h f (suc j) g = set-below l i v b h (λ k q. f (suc k) (omega arith)) j (omega arith)
+-- each of a list of counts stays within a limit where one of them is set within it
+pub set-within : (l : List ℕ) (i v b : ℕ) → v ≤ b → ((j : ℕ) → j < length l → getD l j 0 ≤ b) → (j : ℕ) → j < length l
+    → getD (set l i v) j 0 ≤ b
+set-within [] i v b h f j g = absurd (omega arith)
+set-within (x ∷ l) zero v b h f zero g = h
+set-within (x ∷ l) zero v b h f (suc j) g = f (suc j) g
+set-within (x ∷ l) (suc i) v b h f zero g = f zero g
+set-within (x ∷ l) (suc i) v b h f (suc j) g = set-within l i v b h (λ k q. f (suc k) (omega arith)) j (omega arith)
 
 -- ---- room: the node's own limit, and then the charges
 module _ (b : Bench) (hs : List ℕ) (i words : ℕ) where

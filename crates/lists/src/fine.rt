@@ -82,7 +82,7 @@ fn mark(used: &mut [bool; 4096], place: usize, len: usize)
 
 // Whether every answer is in order and no two share a word. A word is marked when an answer has it.
 fn fine_lists(nodes: [Node; 17], store: &[u16]) -> bool
-    requires { ⌜ length (now store) ≡ 4096 ⌝ }
+    requires { ⌜ length (now store) ≡ full .store ⌝ }
     ensures { λ r. ⌜ r ≡ fineLists full (now (store .entry)) nodes ⌝ }
 {
     let mut used = [false; 4096];
@@ -116,7 +116,7 @@ fn fine_lists(nodes: [Node; 17], store: &[u16]) -> bool
 // Whether the words of a list are as many as it says. Its answers are in order.
 fn is_counted(list: Pending, i: usize, store: &[u16]) -> bool
     requires { ⌜ InStore full (now store) i list ⌝ }
-    requires { ⌜ length (now store) ≡ 4096 ⌝ }
+    requires { ⌜ length (now store) ≡ full .store ⌝ }
     ensures { λ r. ⌜ r ≡ eqb (list .words .0) (added (pendingOf (now (store .entry)) list)) ⌝ }
 {
     let count = list.count;
@@ -131,7 +131,7 @@ fn is_counted(list: Pending, i: usize, store: &[u16]) -> bool
 }
 
 fn all_counted(nodes: [Node; 17], store: &[u16]) -> bool
-    requires { ⌜ (length (now store) ≡ 4096) × (fineLists full (now store) nodes ≡ true) ⌝ }
+    requires { ⌜ (length (now store) ≡ full .store) × (fineLists full (now store) nodes ≡ true) ⌝ }
     ensures { λ r. ⌜ r ≡ every (counted (now (store .entry))) nodes ⌝ }
 {
     let mut i: usize = 0;
@@ -179,7 +179,7 @@ fn lists_clear(nodes: [Node; 17]) -> bool
 
 // Whether the pending lists are as a consistent state has them.
 pub fn lists_ok(nodes: [Node; 17], store: &[u16]) -> bool
-    requires { ⌜ length (now store) ≡ 4096 ⌝ }
+    requires { ⌜ length (now store) ≡ full .store ⌝ }
     ensures { λ r. ⌜ r ≡ listsOk full (now (store .entry)) nodes ⌝ }
 {
     if !fine_lists(nodes, store) {

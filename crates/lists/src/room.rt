@@ -36,10 +36,10 @@ pub fn helds(nodes: [Node; 17]) -> [Words; 17]
     hs
 }
 
-// The charges of all nodes, added up. What a node holds here is far from what a sum could not hold.
+// The charges of all nodes, added up, where no node holds more than it may.
 pub fn charges(hs: [Words; 17]) -> Words
-    requires { ⌜ ((i : ℕ) → i < 17 → getD (counts hs) i 0 < 16777216) ⌝ }
-    ensures { λ r. ⌜ r .0 ≡ chargesOf 134 (counts hs) ⌝ }
+    requires { ⌜ ((i : ℕ) → i < 17 → getD (counts hs) i 0 ≤ full .limit) ⌝ }
+    ensures { λ r. ⌜ r .0 ≡ chargesOf (full .share) (counts hs) ⌝ }
 {
     let mut sum: usize = 0;
     let mut i: usize = 0;
@@ -53,15 +53,14 @@ pub fn charges(hs: [Words; 17]) -> Words
 
 // Whether an answer of `new` words has room at the node of index i.
 pub fn has_room(nodes: [Node; 17], i: usize, new: Words) -> bool
-    requires { ⌜ (bounded full (wordsOf nodes) ≡ true) × (i < 17) × (new .0 ≤ 134) ⌝ }
+    requires { ⌜ (bounded full (wordsOf nodes) ≡ true) × (i < 17) ⌝ }
     ensures { λ r. ⌜ r ≡ roomFor full (wordsOf nodes) i (new .0) ⌝ }
 {
     let mut hs = helds(nodes);
     let h = hs[i];
-    let after = h.0 + new.0;
-    if Words::LIMIT < after {
+    if Words::LIMIT - h.0 < new.0 {
         return false;
     }
-    hs[i] = Words(after);
+    hs[i] = Words(h.0 + new.0);
     charges(hs).0 <= Words::STORE
 }

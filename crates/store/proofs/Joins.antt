@@ -1,6 +1,6 @@
 -- An answer joins its node's list, where it is put beside the others or laid with them anew, and the lists stay in order.
 -- Assumes nothing.
-use Prim.Native.Nat.{ℕ, suc, _+_, _*_, _≤_, _<_}
+use Prim.Native.Nat.{ℕ, suc, _+_, _≤_, _<_}
 use mathlib.Core.Path.{_≡_, refl, sym, ap, _∙_}
 use mathlib.Core.Logic.{_⊎_, inl, inr}
 use mathlib.Core.Bool.{Bool, true, false, _||_, cond}
@@ -207,12 +207,12 @@ pub record Ready (b : Bench) (store : List ℕ) (ns : List Node) (i : ℕ) (a : 
   pub bounds : bounded b (heldsOf store ns) ≡ true
   pub clear : every listClear ns ≡ true
   pub inside : EachInside (length store) ns
-  pub place : listAt ns i .count < 134
+  pub place : listAt ns i .count < b .store
   pub own : listAt ns i .words .0 + length a ≤ b .limit
   pub fits : wordsIn (joinedIn ns i 0 (length a)) ≤ b .store
   pub short : length a ≤ overall 255
 
-module _ (b : Bench) (store : List ℕ) (ns : List Node) (i : ℕ) (a : List ℕ) (enough : b .limit ≤ 6 * 134) (j : Joinable b store ns i a) where
+module _ (b : Bench) (store : List ℕ) (ns : List Node) (i : ℕ) (a : List ℕ) (j : Joinable b store ns i a) where
   pub ready : Ready b store ns i a
   ready =
       let p = lists-parts b store ns (j .lists) in
@@ -224,7 +224,7 @@ module _ (b : Bench) (store : List ℕ) (ns : List Node) (i : ℕ) (a : List ℕ
         bounds = p .2;
         clear = p .3;
         inside = each-inside b store ns (p .0) (p .1) (p .3);
-        place = room-place b store ns i w (j .index) (p .1) (j .room) (p .0) enough (formed-least b (nodeAt b i) a (j .answer));
+        place = room-place b store ns i w (j .index) (p .1) (j .room) (p .0) (formed-least b (nodeAt b i) a (j .answer));
         own = room-own b store ns i w (j .index) (p .1) (j .room);
         fits = room-fits b store ns i w (j .index) (p .1) (j .room) 0;
         short = formed-most b (nodeAt b i) a (j .answer);

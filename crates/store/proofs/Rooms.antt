@@ -1,6 +1,6 @@
 -- Held words and bounds: where an answer has room, it fits beside the others, and the bounds are met after it.
 -- Assumes nothing.
-use Prim.Native.Nat.{ℕ, zero, suc, _+_, _*_, _≤_, _<_}
+use Prim.Native.Nat.{ℕ, zero, suc, _+_, _≤_, _<_}
 use mathlib.Core.Path.{_≡_, refl, sym, ap, _∙_}
 use mathlib.Core.Bool.{true, cond}
 use mathlib.Core.List.{List, [], _∷_, map}
@@ -25,7 +25,7 @@ use Rattle.state.proofs.Lists.{map-set, every-get}
 use Rattle.state.proofs.Starts.{span, span-none, span-more, starts-at}
 use Rattle.state.proofs.InOrder.{listAt, fine-ok, fine-least, counted-is}
 use Rattle.lists.specs.Room.{wordsOf, roomFor}
-use Rattle.lists.proofs.Charges.{words-at, held-at}
+use Rattle.lists.proofs.Charges.{length-words, words-at, held-at}
 use Rattle.store.specs.Layout.{wordsIn, joinedAt, EachInside}
 use Rattle.store.proofs.Every.{both, every-set}
 
@@ -87,6 +87,12 @@ sum-set (x ∷ hs) zero w h = omega arith
 sum-set (x ∷ hs) (suc i) w h = let r : sum (set hs i (getD hs i 0 + w)) ≡ sum hs + w = sum-set hs i w (omega arith) in omega arith
 
 module _ (share : ℕ) where
+  charges-at : (hs : List ℕ) (i v : ℕ) → i < length hs → v ≤ chargesOf share (set hs i v)
+  unfolding chargesOf
+  charges-at [] i v h = absurd (omega arith)
+  charges-at (x ∷ hs) zero v h = omega arith
+  charges-at (x ∷ hs) (suc i) v h = let r : v ≤ chargesOf share (set hs i v) = charges-at hs i v (omega arith) in omega arith
+
   sum-charges : (hs : List ℕ) → sum hs ≤ chargesOf share hs
   unfolding sum chargesOf
   sum-charges [] = omega arith
@@ -144,13 +150,16 @@ module _ (b : Bench) (store : List ℕ) (ns : List Node) (i words : ℕ) (h : i 
       let e = words-sum (set ns i (joinedAt (getD ns i freshNode) to words)) ∙ ap sum (words-joined ns i to words) in
       omega (arith, e, sum-charges (b .share) hs, room-parts .1)
 
-  -- its node's list is not full, since every answer has six words
-  pub room-place : fineLists b store ns ≡ true → b .limit ≤ 6 * 134 → 6 ≤ words → listAt ns i .count < 134
+  -- its node's answers are fewer than the store's words, since every answer has six words
+  pub room-place : fineLists b store ns ≡ true → 6 ≤ words → listAt ns i .count < b .store
   unfolding counted
-  room-place f m k =
+  room-place f k =
+      let hs : List ℕ = wordsOf ns in
+      let v : ℕ = getD hs i 0 + words in
       let e : listAt ns i .words .0 ≡ added (pendingOf store (listAt ns i)) =
       eqb-true _ _ (every-get (counted store) ns i freshNode c h) in
-      omega (arith, room-own, fine-least b store ns f i h)
+      let own : v ≤ b .store = omega (arith, charges-at (b .share) hs i v (omega (arith, length-words ns)), room-parts .1) in
+      omega (arith, words-at ns i, fine-least b store ns f i h)
 
 -- ---- lists in order lie inside the store
 span-end : (store : List ℕ) (k p : ℕ) → (k ≡ 0 → p ≡ 0)

@@ -34,7 +34,7 @@ pub fn copy_in(src: &[u16], dst: &mut [u16], to: usize)
 const OWN: usize = 240;
 
 fn next_place(list: Pending, i: usize) -> usize
-    requires { ⌜ (i < 17) × (list .place + list .words .0 ≤ 4096) ⌝ }
+    requires { ⌜ (i < 17) × (list .place + list .words .0 ≤ full .store) ⌝ }
     ensures { λ r. ⌜ r ≡ nextPlace (i * 240) list ⌝ }
 {
     if list.count == 0 {
@@ -45,7 +45,7 @@ fn next_place(list: Pending, i: usize) -> usize
 
 // Whether no list has one of so many words from a place on.
 fn is_free(nodes: [Node; 17], to: usize, words: Words) -> bool
-    requires { ⌜ EachInside 4096 nodes × (to ≤ 4096) × (words .0 ≤ 134) ⌝ }
+    requires { ⌜ EachInside (full .store) nodes × (to + words .0 ≤ full .store) ⌝ }
     ensures { λ r. ⌜ r ≡ freeOf nodes to (words .0) ⌝ }
 {
     let past = to + words.0;
@@ -95,7 +95,7 @@ fn lay_all(nodes: [Node; 17], i: usize, answer: &[u16], store: &[u16], out: &mut
 
 // The nodes, whose words lie one after the other.
 fn packed(nodes: [Node; 17]) -> [Node; 17]
-    requires { ⌜ wordsIn nodes ≤ 4096 ⌝ }
+    requires { ⌜ wordsIn nodes ≤ full .store ⌝ }
     ensures { λ r. ⌜ r ≡ packedFrom 0 nodes ⌝ }
 {
     let mut ns = nodes;
@@ -114,7 +114,9 @@ fn packed(nodes: [Node; 17]) -> [Node; 17]
 
 // Puts an answer at a place of the store and at the end of a node's list.
 fn put(nodes: [Node; 17], i: usize, answer: &[u16], store: &mut [u16], to: usize) -> [Node; 17]
-    requires { ⌜ (i < 17) × (getD nodes i freshNode .list .count < 134) × (getD nodes i freshNode .list .words .0 + length (now answer) ≤ 4096) × (to + length (now answer) ≤ length (now store)) ⌝ }
+    requires { ⌜ (i < 17) × (to + length (now answer) ≤ length (now store)) ⌝ }
+    requires { ⌜ getD nodes i freshNode .list .count < full .store ⌝ }
+    requires { ⌜ getD nodes i freshNode .list .words .0 + length (now answer) ≤ full .store ⌝ }
     ensures { λ r. ⌜ (r ≡ set nodes i (joinedAt (getD nodes i freshNode) to (length (now (answer .entry))))) × (now (store .exit) ≡ putIn (now (store .entry)) to (now (answer .entry))) ⌝ }
 {
     copy_in(answer, store, to);
@@ -161,7 +163,8 @@ pub struct Queued {
 
 // Adds an answer at the end of a node's list where it has room; where not, nothing changes.
 pub fn queue(s: State, i: usize, answer: &[u16], store: &mut [u16]) -> Queued
-    requires { ⌜ (length (now store) ≡ 4096) × (listsOk full (now store) (s .nodes) ≡ true) × (i < 17) × (wellFormed full (nodeAt full i) (now answer) ≡ true) ⌝ }
+    requires { ⌜ (length (now store) ≡ full .store) × (listsOk full (now store) (s .nodes) ≡ true) × (i < 17)
+        × (wellFormed full (nodeAt full i) (now answer) ≡ true) ⌝ }
     ensures { λ r. ⌜ (r .ok ≡ roomFor full (heldsOf (now (store .entry)) (s .nodes)) i (length (now (answer .entry)))) × Queue full (r .ok) (now (store .entry)) (now (store .exit)) s (r .state) i (now (answer .entry)) ⌝ }
 {
     let nodes = s.nodes;

@@ -17,16 +17,16 @@ index c =
     let n : length (c .args .t1) ≡ 17 = search (needs, length-mapped) in omega (arith, c .pre .index)
 
 known : (c : tie.Start) → Ready full (c .args .store .now) (c .args .t1) (c .args .i) (c .args .answer .now)
-known c = ready full (c .args .store .now) (c .args .t1) (c .args .i) (c .args .answer .now) (omega arith) (c .pre)
+known c = ready full (c .args .store .now) (c .args .t1) (c .args .i) (c .args .answer .now) (c .pre)
 
-inside : (c : tie.Start) → EachInside 4096 (c .args .t1)
+inside : (c : tie.Start) → EachInside (full .store) (c .args .t1)
 inside c k h = omega (arith, known c .inside k h, c .pre .size)
 
 -- the place that is tried begins in the store
-short : (c : tie.Start) → nextPlace (c .args .i * 240) (getD (c .args .t1) (c .args .i) blank .list) ≤ 4096
+short : (c : tie.Start) → nextPlace (c .args .i * 240) (getD (c .args .t1) (c .args .i) blank .list) ≤ full .store
 short c =
     let l = getD (c .args .t1) (c .args .i) blank .list in
-    next-most (c .args .i * 240) l 4096 (omega (arith, index c)) (rw (known c .there) (inside c (c .args .i) (c .pre .index)))
+    next-most (c .args .i * 240) l (full .store) (omega (arith, index c)) (rw (known c .there) (inside c (c .args .i) (c .pre .index)))
 
 mul-n : tie.Need-mul-n
 mul-n c = search needs
@@ -46,12 +46,12 @@ add-if1 c =
 is-free-requires : tie.Need-is-free-requires
 is-free-requires c κs =
     let s = c .before .before .before .before .before .before in
-    (inside s, omega (arith, short s, c .before .next-place .ensures), omega (arith, known s .short))
+    (inside s, c .if1 .taken)
 
 put-requires : tie.Need-put-requires
 put-requires c κs =
     let s = c .before .before .before .before .before .before .before .before .before in
-    (index s, known s .place, omega (arith, known s .own), omega (arith, c .before .before .before .if1 .taken, s .pre .size))
+    ((index s, omega (arith, c .before .before .before .if1 .taken, s .pre .size)), (known s .place, omega (arith, known s .own)))
 
 same-length : tie.Need-same-length
 same-length c = search needs
@@ -62,7 +62,8 @@ returns c =
     let a = s .args in
     let e = c .before .before .before .before .before .before .before .next-place .ensures ∙ ap (λ (n : Node). nextPlace (a .i * 240) (n .list)) (known s .there) in
     rw (c .before .before .put .ensures .0, c .before .before .put .ensures .1)
-    (put-added full (a .store .now) (a .t1) (a .i) (a .answer .now) (omega arith) (s .pre) (a .i * 240) _ e (sym (c .before .before .before .before .before .is-free .ensures) ∙ c .before .before .before .before .if2 .taken)
+    (put-added full (a .store .now) (a .t1) (a .i) (a .answer .now) (s .pre) (a .i * 240) _ e
+    (sym (c .before .before .before .before .before .is-free .ensures) ∙ c .before .before .before .before .if2 .taken)
     (omega (arith, c .before .before .before .before .before .before .if1 .taken, s .pre .size)))
 
 repack-requires : tie.Need-repack-requires

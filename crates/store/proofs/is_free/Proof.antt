@@ -7,6 +7,7 @@ use mathlib.Core.Logic.{⊎-elim}
 use native.Mathlib.Omega.{arith}
 use lib.ListN.{length, drop, getD}
 use borrow.Author.Tests.{ltb-true, ltb-false, le-leb, lt-leb}
+use Rattle.meaning.specs.Bench.{full}
 use Rattle.units.specs.Count.{every}
 use Rattle.units.proofs.Choice.{yes-or, no-or, yes-and, no-and}
 use Rattle.state.specs.declared.node.Node.{Node}
@@ -28,7 +29,7 @@ nodes17 c = search (needs, length-mapped)
 
 -- the list that the loop is at lies inside the store
 inside : (c : tie.In-loop Inv-loop μ-loop)
-    → (let n = getD (c .before .before .before .args .t1) (c .before .loop .k) blank in n .list .place + n .list .words .0 ≤ 4096)
+    → (let n = getD (c .before .before .before .args .t1) (c .before .loop .k) blank in n .list .place + n .list .words .0 ≤ full .store)
 inside c =
     let s = c .before .before .before in
     let h = nodes17 s in

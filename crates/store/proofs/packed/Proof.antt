@@ -6,6 +6,7 @@ use mathlib.Core.List.{[], _++_, append-nil}
 use native.Mathlib.Omega.{arith}
 use lib.ListN.{length, take, drop, getD, drop-of-length-le}
 use lib.Seq.{take-all}
+use Rattle.meaning.specs.Bench.{full}
 use Rattle.state.proofs.Lists.{length-mapped}
 use Rattle.store.specs.Layout.{packedFrom, wordsIn}
 use Rattle.store.proofs.Laid.{blank, words-more, words-fewer, packed-more}
@@ -25,7 +26,7 @@ nodes17 c = search (needs, length-mapped)
 -- with the words of the node that the loop is at
 next : (c : tie.In-loop Inv-loop μ-loop)
     → (let ns = c .before .before .args .t1 in let k = c .before .loop .k in
-    (c .before .loop .to + getD ns k blank .list .words .0 ≡ wordsIn (take (k + 1) ns)) × (wordsIn (take (k + 1) ns) ≤ 4096))
+    (c .before .loop .to + getD ns k blank .list .words .0 ≡ wordsIn (take (k + 1) ns)) × (wordsIn (take (k + 1) ns) ≤ full .store))
 next c =
     let s = c .before .before in
     let ns = s .args .t1 in

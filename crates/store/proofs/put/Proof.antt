@@ -13,7 +13,7 @@ use Rattle.store.proofs.put.Tie as tie
 same : (c : tie.Start) → getD (c .args .t1) (c .args .i) blank ≡ getD (c .args .t1) (c .args .i) freshNode
 same c =
     let n : length (c .args .t1) ≡ 17 = search (needs, length-mapped) in
-    node-any (c .args .t1) (c .args .i) (omega (arith, c .pre .0))
+    node-any (c .args .t1) (c .args .i) (omega (arith, c .pre .0 .0))
 
 copy-in-requires : tie.Need-copy-in-requires
 copy-in-requires c κs = search needs
@@ -28,7 +28,7 @@ joined-requires : tie.Need-joined-requires
 joined-requires c κs =
     let s = c .before .before .before .before .before .before .before in
     let e = same s in
-    (omega (arith, ap (λ (n : Node). n .list .count) e, s .pre .1), omega (arith, ap (λ (n : Node). n .list .words .0) e, s .pre .2))
+    (omega (arith, ap (λ (n : Node). n .list .count) e, s .pre .1 .0), omega (arith, ap (λ (n : Node). n .list .words .0) e, s .pre .1 .1))
 
 mul-ns : tie.Need-mul-ns
 mul-ns c = search needs

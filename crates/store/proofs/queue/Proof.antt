@@ -4,9 +4,8 @@ use mathlib.Core.Bool.{true≢false, false≢true}
 use lib.ListN.{length}
 use borrow.Author.Tests.{not-true, not-false}
 use Rattle.meaning.specs.Bench.{full}
-use Rattle.state.specs.Consistent.{nodeAt, heldsOf}
+use Rattle.state.specs.Consistent.{heldsOf}
 use Rattle.state.proofs.Lists.{length-mapped}
-use Rattle.state.proofs.Formed.{formed-most}
 use Rattle.state.proofs.InOrder.{counted-is}
 use Rattle.lists.specs.Room.{wordsOf}
 use Rattle.store.proofs.Order.{lists-parts}
@@ -28,7 +27,7 @@ has-room-requires c κs =
     let s = c .before .before .before in
     let a = s .args in
     let p = lists-parts full (a .store .now) (a .s .nodes) (s .pre .1) in
-    (rw (held s) (p .2), s .pre .2, formed-most full (nodeAt full (a .i)) (a .answer .now) (s .pre .3))
+    (rw (held s) (p .2), s .pre .2)
 
 returns : tie.Need-returns
 returns c =

@@ -18,7 +18,7 @@ index c =
     let n : length (c .args .t1) ≡ 17 = search (needs, length-mapped) in omega (arith, c .pre .index)
 
 known : (c : tie.Start) → Ready full (c .args .store .now) (c .args .t1) (c .args .i) (c .args .answer .now)
-known c = ready full (c .args .store .now) (c .args .t1) (c .args .i) (c .args .answer .now) (omega arith) (c .pre)
+known c = ready full (c .args .store .now) (c .args .t1) (c .args .i) (c .args .answer .now) (c .pre)
 
 slice-aggregate-lay-all : tie.Need-slice-aggregate-lay-all
 slice-aggregate-lay-all c = search needs
@@ -27,7 +27,7 @@ lay-all-requires : tie.Need-lay-all-requires
 lay-all-requires c κs =
     let s = c .before .before .before .before in
     let a = s .args in
-    (index s, known s .inside, omega (arith, runs-fit full (a .store .now) (a .t1) (a .i) (a .answer .now) (omega arith) (s .pre)))
+    (index s, known s .inside, omega (arith, runs-fit full (a .store .now) (a .t1) (a .i) (a .answer .now) (s .pre)))
 
 slice-aggregate-copy-in : tie.Need-slice-aggregate-copy-in
 slice-aggregate-copy-in c = search needs
@@ -69,10 +69,10 @@ returns c =
     let run = runsOf st (a .i) (a .answer .now) 0 (a .t1) in
     let z : List ℕ = replicate {A = ℕ} 4096 0 in
     let l : length z ≡ length st = length-replicate {A = ℕ} 4096 0 ∙ sym (s .pre .size) in
-    let f = runs-fit full st (a .t1) (a .i) (a .answer .now) (omega arith) (s .pre) in
+    let f = runs-fit full st (a .t1) (a .i) (a .answer .now) (s .pre) in
     let x = put-back st z run _ _ (c .before .before .before .before .before .before .before .before .before .lay-all .ensures) (c .before .before .before .before .before .copy-in .ensures) l (omega (arith, s .pre .size)) in
     rw (c .packed .ensures, c .before .joined .ensures, known s .there)
-    (packed-added full st (a .t1) (a .i) (a .answer .now) (omega arith) (s .pre) _ _ (x .0) (x .1))
+    (packed-added full st (a .t1) (a .i) (a .answer .now) (s .pre) _ _ (x .0) (x .1))
 
 pub repack-spec : {M : Type 1} → statement M
 repack-spec =

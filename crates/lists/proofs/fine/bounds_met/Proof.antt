@@ -11,6 +11,7 @@ use borrow.Author.Needs.{needs}
 use borrow.Author.Tests.{le-leb, lt-leb}
 use Rattle.units.specs.declared.Words.{Words}
 use Rattle.units.proofs.Choice.{yes-and, no-and}
+use Rattle.meaning.specs.Bench.{full}
 use Rattle.state.specs.Consistent.{bounded}
 use Rattle.state.proofs.Lists.{every-at, every-end}
 use Rattle.lists.specs.Room.{counts}
@@ -19,7 +20,7 @@ use Rattle.lists.proofs.fine.bounds_met.Statement.{statement}
 use Rattle.lists.proofs.fine.bounds_met.Tie as tie
 
 abbrev Inv-loop : tie.InvT-loop
-Inv-loop hs i₀ i = (i ≤ 17) × (limited 804 (counts hs) ≡ limited 804 (drop i (counts hs)))
+Inv-loop hs i₀ i = (i ≤ 17) × (limited (full .limit) (counts hs) ≡ limited (full .limit) (drop i (counts hs)))
 
 abbrev μ-loop : tie.MeasureT-loop
 μ-loop hs i₀ i = 17 - i
@@ -28,8 +29,10 @@ long : (c : tie.Start Inv-loop μ-loop) → length (counts (c .args .t1)) ≡ 17
 long c = let n : length (c .args .t1) ≡ 17 = search needs in rw length-map n
 
 -- past the loop: none does
-all-in : (c : tie.After-loop Inv-loop μ-loop) → limited 804 (counts (c .before .before .args .t1)) ≡ true
-all-in c = let n = long (c .before .before) in c .before .loop .inv .1 ∙ every-end (λ h. leb h 804) _ (c .before .loop .i) (omega arith)
+all-in : (c : tie.After-loop Inv-loop μ-loop) → limited (full .limit) (counts (c .before .before .args .t1)) ≡ true
+all-in c =
+    let n = long (c .before .before) in
+    c .before .loop .inv .1 ∙ every-end (λ h. leb h (full .limit)) _ (c .before .loop .i) (omega arith)
 
 loop-holds : tie.Need-loop-holds Inv-loop μ-loop
 loop-holds c = search needs
@@ -46,8 +49,8 @@ returns c =
     let hs : List Words = c .before .before .before .before .before .args .t1 in
     let n = long (c .before .before .before .before .before) in
     let l = c .before .before .before .before .loop in
-    let h : 804 < getD (counts hs) (l .i) 0 = omega (arith, count-at hs (l .i)) in
-    sym (no-and _ (l .inv .1 ∙ every-at (λ h. leb h 804) (counts hs) (l .i) 0 (omega arith) ∙ no-and _ (lt-leb _ _ h)))
+    let h : full .limit < getD (counts hs) (l .i) 0 = omega (arith, count-at hs (l .i)) in
+    sym (no-and _ (l .inv .1 ∙ every-at (λ h. leb h (full .limit)) (counts hs) (l .i) 0 (omega arith) ∙ no-and _ (lt-leb _ _ h)))
 
 add-i : tie.Need-add-i Inv-loop μ-loop
 add-i c = search needs
@@ -60,14 +63,14 @@ loop-again c =
     let hs : List Words = c .before .before .before .before .before .args .t1 in
     let n = long (c .before .before .before .before .before) in
     let l = c .before .before .before .before .loop in
-    let h : getD (counts hs) (l .i) 0 ≤ 804 = omega (arith, count-at hs (l .i)) in
-    (omega arith, l .inv .1 ∙ every-at (λ h. leb h 804) (counts hs) (l .i) 0 (omega arith) ∙ yes-and (le-leb _ _ h))
+    let h : getD (counts hs) (l .i) 0 ≤ full .limit = omega (arith, count-at hs (l .i)) in
+    (omega arith, l .inv .1 ∙ every-at (λ h. leb h (full .limit)) (counts hs) (l .i) 0 (omega arith) ∙ yes-and (le-leb _ _ h))
 
 charges-requires : tie.Need-charges-requires Inv-loop μ-loop
 charges-requires c κs =
     let hs = counts (c .before .before .args .t1) in
     let n = long (c .before .before) in
-    λ j g. omega (arith, limit-at 804 hs (all-in c) j (omega arith))
+    λ j g. limit-at (full .limit) hs (all-in c) j (omega arith)
 
 returns-2 : tie.Need-returns-2 Inv-loop μ-loop
 unfolding bounded

@@ -9,6 +9,7 @@ use lib.ListN.{length, take, getD, length-map}
 use lib.Seq.{take-all}
 use borrow.Author.Needs.{needs}
 use Rattle.units.specs.declared.Words.{Words}
+use Rattle.meaning.specs.Bench.{full}
 use Rattle.state.specs.Consistent.{chargesOf}
 use Rattle.lists.specs.Room.{counts}
 use Rattle.lists.proofs.Charges.{count-at, charges-more}
@@ -16,7 +17,7 @@ use Rattle.lists.proofs.room.charges.Statement.{statement}
 use Rattle.lists.proofs.room.charges.Tie as tie
 
 abbrev Inv-loop : tie.InvT-loop
-Inv-loop hs sum₀ i₀ sum i = (i ≤ 17) × (sum ≤ 16777216 * i) × (sum ≡ chargesOf 134 (take i (counts hs)))
+Inv-loop hs sum₀ i₀ sum i = (i ≤ 17) × (sum ≤ full .limit * i) × (sum ≡ chargesOf (full .share) (take i (counts hs)))
 
 abbrev μ-loop : tie.MeasureT-loop
 μ-loop hs sum₀ i₀ sum i = 17 - i
@@ -24,7 +25,7 @@ abbrev μ-loop : tie.MeasureT-loop
 -- what a turn adds
 added : (c : tie.After-charge Inv-loop μ-loop)
     → let h = getD (counts (c .before .before .before .before .args .t1)) (c .before .before .before .loop .i) 0 in
-    (c .charge .result .0 ≡ max 134 h) × (h < 16777216)
+    (c .charge .result .0 ≡ max (full .share) h) × (h ≤ full .limit)
 added c =
     let e = count-at (c .before .before .before .before .args .t1) (c .before .before .before .loop .i) in
     (rw e (c .charge .ensures), c .before .before .before .before .pre _ (c .before .before .loop-test .taken))
@@ -58,15 +59,15 @@ loop-again c =
     let a = added (c .before) in
     let n : length hs ≡ 17 = search needs in
     let l : i < length (counts hs) = rw length-map (omega arith) in
-    (omega arith, omega arith, rw add-one (omega (arith, charges-more 134 (counts hs) i l)))
+    (omega arith, omega arith, rw add-one (omega (arith, charges-more (full .share) (counts hs) i l)))
 
 returns : tie.Need-returns Inv-loop μ-loop
 returns c =
     let hs : List Words = c .before .before .args .t1 in
     let n : length hs ≡ 17 = search needs in
     let e : c .before .loop .i ≡ 17 = omega arith in
-    c .before .loop .inv .2 ∙ ap (λ (j : ℕ). chargesOf 134 (take j (counts hs))) e
-    ∙ ap (chargesOf 134) (take-all 17 (counts hs) (rw length-map (omega arith)))
+    c .before .loop .inv .2 ∙ ap (λ (j : ℕ). chargesOf (full .share) (take j (counts hs))) e
+    ∙ ap (chargesOf (full .share)) (take-all 17 (counts hs) (rw length-map (omega arith)))
 
 pub charges-spec : {M : Type 1} → statement M
 charges-spec =

@@ -10,7 +10,7 @@ use Rattle.meaning.specs.Bench.{full}
 use Rattle.state.specs.Consistent.{chargesOf}
 use Rattle.state.proofs.Lists.{length-mapped, map-set}
 use Rattle.lists.specs.Room.{counts, wordsOf}
-use Rattle.lists.proofs.Charges.{count-at, length-words, bounded-at, set-below, no-room, room-by-charges}
+use Rattle.lists.proofs.Charges.{count-at, length-words, bounded-at, set-within, no-room, room-by-charges}
 use Rattle.lists.proofs.room.has_room.Statement.{statement}
 use Rattle.lists.proofs.room.has_room.Tie as tie
 
@@ -25,7 +25,7 @@ long : (c : tie.After-helds) → length (holds c) ≡ 17
 long c = length-words (c .before .args .nodes) ∙ search (needs, length-mapped)
 
 -- no node holds more than the limit
-held-few : (c : tie.After-helds) → (i : ℕ) → i < 17 → getD (holds c) i 0 ≤ 804
+held-few : (c : tie.After-helds) → (i : ℕ) → i < 17 → getD (holds c) i 0 ≤ full .limit
 held-few c i h = bounded-at full (holds c) (c .before .pre .0) i (omega (arith, long c))
 
 helds-requires : tie.Need-helds-requires
@@ -37,16 +37,20 @@ mul-h c = search needs
 array-copy-out-h : tie.Need-array-copy-out-h
 array-copy-out-h c = search needs
 
-add-after : tie.Need-add-after
-add-after c =
-    let i = c .before .before .before .before .args .i in
-    record { fits = omega (arith, held-there (c .before .before .before) i, held-few (c .before .before .before) i (c .before .before .before .before .pre .1)) }
+sub-if1 : tie.Need-sub-if1
+sub-if1 c =
+    let s = c .before .before .before in
+    let d = c .before .before in
+    omega (arith, held-there d (s .args .i), held-few d (s .args .i) (s .pre .1))
 
 returns : tie.Need-returns
 returns c =
-    let a = c .before .before .before .before .before .args in
     let d = c .before .before .before .before in
+    let a = d .before .args in
     sym (no-room full (holds d) (a .i) (a .new .0) (omega (arith, held-there d (a .i))))
+
+add-t7 : tie.Need-add-t7
+add-t7 c = search needs
 
 mul-hs : tie.Need-mul-hs
 mul-hs c = search needs
@@ -56,24 +60,25 @@ array-set-from-hs c = search needs
 
 charges-requires : tie.Need-charges-requires
 charges-requires c κs =
-    let a = c .before .before .before .before .before .args in
-    let d = c .before .before .before .before in
+    let d = c .before .before .before .before .before .before in
+    let a = d .before .args in
     let e = held-there d (a .i) in
-    let f = held-few d (a .i) (c .before .before .before .before .before .pre .1) in
+    let f = held-few d (a .i) (d .before .pre .1) in
     let v = (getD (d .helds .result) (a .i) (record { 0 = 0 })) .0 + a .new .0 in
     let l = long d in
-    let t : (j : ℕ) → j < 17 → getD (counts (set (d .helds .result) (a .i) (record { 0 = v }))) j 0 < 16777216 = λ j g.
+    let t : (j : ℕ) → j < 17 → getD (counts (set (d .helds .result) (a .i) (record { 0 = v }))) j 0 ≤ full .limit = λ j g.
     rw (map-set, d .helds .ensures)
-    (set-below (holds d) (a .i) v 16777216 (omega arith) (λ k h. omega (arith, held-few d k (omega arith))) j (omega arith)) in
+    (set-within (holds d) (a .i) v (full .limit) (omega arith) (λ k h. held-few d k (omega arith)) j (omega arith)) in
     t
 
 returns-2 : tie.Need-returns-2
 returns-2 c =
-    let a = c .before .before .before .before .before .before .before .args in
-    let d = c .before .before .before .before .before .before in
+    let d = c .before .before .before .before .before .before .before .before in
+    let a = d .before .args in
     let hs : List ℕ = holds d in
     let e = held-there d (a .i) in
-    let r : c .before .charges .result .0 ≡ chargesOf 134 (set hs (a .i) (getD hs (a .i) 0 + a .new .0)) =
+    let f = held-few d (a .i) (d .before .pre .1) in
+    let r : c .before .charges .result .0 ≡ chargesOf (full .share) (set hs (a .i) (getD hs (a .i) 0 + a .new .0)) =
     c .before .charges .ensures ∙ rw (map-set, d .helds .ensures, e) in
     rw r (sym (room-by-charges full hs (a .i) (a .new .0) (omega arith)))
 
@@ -84,8 +89,9 @@ has-room-spec =
     helds-requires
     mul-h
     array-copy-out-h
-    add-after
+    sub-if1
     returns
+    add-t7
     mul-hs
     array-set-from-hs
     charges-requires
