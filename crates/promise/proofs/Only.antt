@@ -222,11 +222,11 @@ index-node b ok i h = go (below-or i (b .readers))
     go (inr l) = record { node = hub; is = node-hub b; slot = omega arith }
 
 -- a list's count of its words is right, and its place is 0 where it has no answer
-record ListFit (store : List ℕ) (x : Node) : Type 0 where
-  words : x .list .words .0 ≡ added (pendingOf store (x .list))
-  none : cond (eqb (x .list .count) 0) (x .list .place) 0 ≡ 0
+pub record ListFit (store : List ℕ) (x : Node) : Type 0 where
+  pub words : x .list .words .0 ≡ added (pendingOf store (x .list))
+  pub none : cond (eqb (x .list .count) 0) (x .list .place) 0 ≡ 0
 
-none-by : (t : Bool) (p : ℕ) → cond t (eqb p 0) true ≡ true → cond t p 0 ≡ 0
+pub none-by : (t : Bool) (p : ℕ) → cond t (eqb p 0) true ≡ true → cond t p 0 ≡ 0
 none-by true p e = eqb-true p 0 e
 none-by false p e = refl
 
@@ -241,7 +241,7 @@ list-fit b m p i h =
       none = none-by (eqb (getD ns i freshNode .list .count) 0) _ (every-get listClear ns i freshNode (o .3) l);
     }
 
-known-same : (s t : List ℕ) (x y : Node) → ListFit s x → ListFit t y → nodeOf s x ≡ nodeOf t y → known s x ≡ known t y
+pub known-same : (s t : List ℕ) (x y : Node) → ListFit s x → ListFit t y → nodeOf s x ≡ nodeOf t y → known s x ≡ known t y
 unfolding known nodeOf
 known-same s t x y f g e =
     let a : pendingOf s (x .list) ≡ pendingOf t (y .list) = ap (λ (n : M.Node). n .pending) e in
