@@ -36,7 +36,7 @@ use Rattle.promise.proofs.Oldest.{pending-is, oldest-first, oldest-lies, shown-
 use Rattle.promise.proofs.Chains.{Stepped, stepped}
 use Rattle.text.specs.Text.{wordsLine}
 use Rattle.listing.specs.Listing.{Turn, wordsIn, handoverIn, handedOver, heard, turn}
-use Rattle.asking.specs.Ask.{replyLine, Waiting, Asks}
+use Rattle.asking.specs.Ask.{longest, replyLine, Waiting, Asks}
 use Rattle.asking.specs.declared.Asked.{Asked}
 use Rattle.asking.proofs.Queued.{queues, waits}
 
@@ -47,15 +47,15 @@ took {b} {c} {m} {m′} {said} u d = stepped b c m said m′ u (by-step b m c u 
 pub asks-as : {b : Bench} {o p : Turn} {r : Asked} {answer : List ℕ} {m : Machine} → p ≡ o → Asks b o r answer m → Asks b p r answer m
 asks-as {b} {o} {p} {r} {answer} {m} e a = subst (λ (o : Turn). Asks b o r answer m) (sym e) a
 
--- ---- the answer that waits: w, at most 134 words, with the handover number
+-- ---- the answer that waits: w, at most as long as the longest, with the handover number
 module _ (b : Bench) (n : ℕ) (m : Machine) where
   abbrev number : ℕ
   number = meaning b m .nodes n .handover
 
   pub record Hands (w : List ℕ) : Type 0 where
-    pub few : length w ≤ 134
+    pub few : length w ≤ longest
     pub first : (ws : List (List ℕ)) × (meaning b m .nodes n .pending ≡ w ∷ ws)
-    pub gives : step b (meaning b m) (collect Register n 134) ≡ saying (answered (handed w number)) (meaning b m)
+    pub gives : (k : ℕ) → longest ≤ k → step b (meaning b m) (collect Register n k) ≡ saying (answered (handed w number)) (meaning b m)
 
   pub hands : Waiting b n m → (w : List ℕ) × Hands w
   unfolding bears
@@ -68,13 +68,15 @@ module _ (b : Bench) (n : ℕ) (m : Machine) where
       let w : List ℕ = answerAt (m .store) p in
       let first = oldest-first b m (h .sound) n i (h .node) refl x refl some in
       let lies = oldest-lies b m (h .sound) n i (h .node) refl x refl some in
-      let few : length w ≤ 134 = omega (arith, answer-length (m .store) p (lies .inside), lies .most) in
+      let few : length w ≤ longest = omega (arith, answer-length (m .store) p (lies .inside), lies .most) in
       let bare = shown-bare Register n w refl in (
         w,
         record {
           few = few;
           first = first;
-          gives = collect-0 b (meaning b m) Register n 134 (h .node) w (first .0) (first .1) (ap (λ (l : List ℕ). leb (length l) 134) bare ∙ le-leb (length w) 134 few)
+          gives = λ k room.
+              collect-0 b (meaning b m) Register n k (h .node) w (first .0) (first .1)
+              (ap (λ (l : List ℕ). leb (length l) k) bare ∙ le-leb (length w) k (omega arith))
               ∙ ap (λ (l : List ℕ). saying (answered (handed l number)) (meaning b m)) bare;
         },
       )
@@ -83,7 +85,11 @@ module _ (b : Bench) (n : ℕ) (m : Machine) where
   pub handed-over : {w : List ℕ} → Hands w → handedOver b n (meaning b m) ≡ record { line = wordsLine w; after = (step b (meaning b m) (acknowledge n number)) .next }
   unfolding handedOver wordsIn handoverIn
   handed-over h =
-      ap (λ (o : Outcome). record { line = wordsLine (wordsIn (o .said)); after = (step b (o .next) (acknowledge n (handoverIn (o .said)))) .next }) (h .gives)
+      let over : Outcome → Turn = λ o. record {
+        line = wordsLine (wordsIn (o .said));
+        after = (step b (o .next) (acknowledge n (handoverIn (o .said)))) .next;
+      } in
+      ap over (h .gives 134 (omega arith))
 
   -- what collecting it hands back and writes
   pub record Gathered (r : Handout) (out : List ℕ) (w : List ℕ) : Type 0 where
@@ -91,12 +97,13 @@ module _ (b : Bench) (n : ℕ) (m : Machine) where
     pub reply : r ≡ Handout.Handed (record { 0 = length w }) number
     pub output : take (length w) out ≡ w
 
-  pub gathered : {r : Handout} {out out′ : List ℕ} → Waiting b n m → length out ≡ 134 → Collects b (collect Register n (length out)) m r out out′ → (w : List ℕ) × Gathered r out′ w
+  pub gathered : {r : Handout} {out out′ : List ℕ} → Waiting b n m → longest ≤ length out
+      → Collects b (collect Register n (length out)) m r out out′ → (w : List ℕ) × Gathered r out′ w
   unfolding expected replied written
   gathered {r} {out} {out′} h l c =
       let p = hands h in
       let s : expected b (collect Register n (length out)) m .said ≡ answered (handed (p .0) number) =
-      ap (λ (o : Outcome). o .said) (yes-cond _ (eq-eqb _ _ (h .sound)) ∙ ap (λ (k : ℕ). step b (meaning b m) (collect Register n k)) l ∙ p .1 .gives) in (
+      ap (λ (o : Outcome). o .said) (yes-cond _ (eq-eqb _ _ (h .sound)) ∙ p .1 .gives (length out) l) in (
         p .0,
         record {
           hands = p .1;

@@ -7,6 +7,7 @@ use mathlib.Core.List.{List, []}
 use lib.Dec.{eqb}
 use lib.ListN.{length, take}
 use Rattle.meaning.specs.Bench.{Bench, isNode}
+use Rattle.meaning.specs.Packet.{overall}
 use Rattle.meaning.specs.Gateway.{Gateway}
 use Rattle.state.specs.Machine.{Machine, meaning}
 use Rattle.state.specs.Consistent.{unfit}
@@ -14,6 +15,10 @@ use Rattle.text.specs.Text.{wordsLine}
 use Rattle.listing.specs.Lines.{refusedLine}
 use Rattle.listing.specs.Listing.{Turn}
 use Rattle.asking.specs.declared.Asked.{Asked}
+
+-- the words of the longest answer, which has 255 bytes of data
+abbrev pub longest : ℕ
+longest = overall 255
 
 -- the line of a refusal's number, or of 0 and an answer
 unfoldable pub replyLine : ℕ → List ℕ → List ℕ
@@ -34,5 +39,5 @@ pub record Asks (b : Bench) (o : Turn) (r : Asked) (answer : List ℕ) (m : Mach
   pub line : replyLine (r .refusal) (take (r .words .0) answer) ≡ o .line
   pub after : meaning b m ≡ o .after
   pub sound : unfit b m ≡ 0
-  pub few : r .words .0 ≤ 134
+  pub few : r .words .0 ≤ longest
   pub number : r .refusal ≤ 16

@@ -18,7 +18,7 @@ ghost use Rattle.units.specs.Word.{lsb};
 ghost use Rattle.state.specs.Machine.{machine, meaning};
 ghost use Rattle.state.specs.Consistent.{unfit};
 ghost use Rattle.listing.specs.Listing.{turn, handedOver};
-ghost use Rattle.asking.specs.Ask.{Asks, Waiting};
+ghost use Rattle.asking.specs.Ask.{longest, Asks, Waiting};
 
 // The state after a command, and the number of its refusal, or 0 and the count of its answer's words.
 pub struct Asked {
@@ -40,7 +40,7 @@ fn refused(state: State, refusal: u8) -> Asked
 // The answer that waits at a node: collected and acknowledged.
 fn hand_over(s: State, node: u8, store: &[u16], plaques: &[u8], answer: &mut [u16]) -> Asked
     requires { ⌜ Waiting full node (machine s (now store) (now plaques)) ⌝ }
-    requires { ⌜ length (now answer) ≡ 134 ⌝ }
+    requires { ⌜ longest ≤ length (now answer) ⌝ }
     ensures { λ r. ⌜ Asks full (handedOver full node (meaning full (machine s (now (store .entry)) (now (plaques .entry))))) r (now (answer .exit)) (machine (r .state) (now (store .entry)) (now (plaques .entry))) ⌝ }
 {
     match collect(s, Form::Register, node, store, plaques, answer) {
@@ -57,6 +57,7 @@ fn hand_over(s: State, node: u8, store: &[u16], plaques: &[u8], answer: &mut [u1
     }
 }
 
+// The answer stands at the front of what was lent for it, which has room for the longest.
 pub fn ask(
     s: State,
     t: Stamp,
@@ -66,7 +67,7 @@ pub fn ask(
     answer: &mut [u16],
 ) -> Asked
     requires { ⌜ unfit full (machine s (now store) (now plaques)) ≡ 0 ⌝ }
-    requires { ⌜ (3 ≤ length (now words)) × (length (now answer) ≡ 134) ⌝ }
+    requires { ⌜ (3 ≤ length (now words)) × (longest ≤ length (now answer)) ⌝ }
     ensures { λ r. ⌜ Asks full (turn full (meaning full (machine s (now (store .entry)) (now (plaques .entry)))) t (now (words .entry))) r (now (answer .exit)) (machine (r .state) (now (store .exit)) (now (plaques .exit))) ⌝ }
 {
     let called = obey(s, t, Form::Register, words, store, plaques);

@@ -70,7 +70,7 @@ ask-requires c κs =
     let s = c .before .before .before .before .before .before .before .before .before .before .before .before .before in let a = s .args in
     let h = command-there (now (a .file)) (a .at) (s .pre .0) in
     let k = packs (now (a .file)) (a .at) (replicate 134 0) (s .pre .0) (c .before .before .before .before .before .before .pack .ensures) (length-replicate {A = ℕ} 134 0) in
-    (s .pre .1 .0, (omega (arith, k .long, h .facts .low), s .pre .1 .1))
+    (s .pre .1 .0, (omega (arith, k .long, h .facts .low), omega (arith, s .pre .1 .1)))
 
 same-length : tie.Need-same-length
 same-length c = search needs
