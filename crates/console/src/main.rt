@@ -1,8 +1,12 @@
-// The bench console: a call a line on standard input, an answer a line on standard output, until the input ends.
+// The bench console: a call a line on standard input, an answer a line on standard output, until the input ends. Where input or output
+// fails, that is said on standard error, and the console ends.
 use gather::gather;
+use libc::STDERR_FILENO;
 use libc::STDIN_FILENO;
-use libc::STDOUT_FILENO;
 use state::State;
+use streams::is_help;
+use streams::put;
+use streams::take;
 use talk::talk;
 ghost use mathlib.Core.Path.{_≡_};
 ghost use Prim.Native.Nat.{_≤_};
@@ -11,22 +15,30 @@ ghost use Rattle.meaning.specs.Bench.{full};
 ghost use Rattle.state.specs.Machine.{machine};
 ghost use Rattle.state.specs.Consistent.{unfit};
 
-// The state after a piece of the input, and how many bytes of a line that goes on are kept.
+// The state after a line, and whether its answer could be written.
+struct Answered {
+    state: State,
+    written: bool,
+}
+
+// The state after a piece of the input, how many bytes of a line that goes on are kept, and whether all answers could be written.
 struct Heard {
     state: State,
     kept: usize,
+    written: bool,
 }
 
 // Plays a line, and writes its answer before anything else is waited for.
-fn answer(s: State, line: &[u8], store: &mut [u16], plaques: &mut [u8]) -> State
+fn answer(s: State, line: &[u8], store: &mut [u16], plaques: &mut [u8]) -> Answered
     requires { ⌜ unfit full (machine s (now store) (now plaques)) ≡ 0 ⌝ }
-    ensures { λ r. ⌜ unfit full (machine r (now (store .exit)) (now (plaques .exit))) ≡ 0 ⌝ }
+    ensures { λ r. ⌜ unfit full (machine (r .state) (now (store .exit)) (now (plaques .exit))) ≡ 0 ⌝ }
 {
     let mut out = [0u8; 691];
     let p = talk(s, line, store, plaques, &mut out, 0);
     let n = p.at;
-    io::write_all(STDOUT_FILENO, &out[..n]);
-    p.state
+    let written = put(&out[..n]);
+    let state = p.state;
+    Answered { state, written }
 }
 
 // Plays the lines that end in a piece, and keeps what it has of the next.
@@ -46,20 +58,27 @@ fn hear(
     let mut t = s;
     let mut k = kept;
     let mut at = 0;
-    while at < piece.len() {
+    let mut written = true;
+    while at < piece.len() && written {
         let g = gather(piece, at, line, k);
         at = g.at;
         k = g.kept;
         if g.whole {
-            t = answer(t, &line[..k], store, plaques);
+            let a = answer(t, &line[..k], store, plaques);
+            t = a.state;
+            written = a.written;
             k = 0;
         }
     }
-    Heard { state: t, kept: k }
+    Heard {
+        state: t,
+        kept: k,
+        written,
+    }
 }
 
 // A line is kept up to a byte more than the longest that is looked into, which shows that it is longer.
-fn main() {
+fn play() {
     let mut store = [0u16; 4096];
     let mut plaques = [0u8; 16384];
     let mut line = [0u8; 4401];
@@ -69,16 +88,19 @@ fn main() {
     // It ends with the input. (So many pieces no bench will see; the count shows the prover that it ends.)
     let mut pieces: u64 = 0;
     while pieces < u64::MAX {
-        let got = libc::read(STDIN_FILENO, &mut piece);
-        if got < 0 {
+        let got = take(STDIN_FILENO, &mut piece);
+        if !got.ok {
             os::fail(b"standard input");
-            break;
+            return;
         }
-        let n = io::count(got, &piece);
+        let n = got.n;
         if n == 0 {
             break;
         }
         let h = hear(s, &piece[..n], &mut line, kept, &mut store, &mut plaques);
+        if !h.written {
+            return;
+        }
         s = h.state;
         kept = h.kept;
         pieces += 1;
@@ -86,4 +108,28 @@ fn main() {
     if 0 < kept {
         answer(s, &line[..kept], &mut store, &mut plaques);
     }
+}
+
+fn explain() {
+    let mut word = io::buffer();
+    let n = os::arg(1, &mut word);
+    if is_help(&word[..n]) {
+        put(b"usage: console\n");
+        put(
+            b"Plays calls, a line each, from standard input, and writes an answer a line. See docs/CONSOLE.md\n",
+        );
+        return;
+    }
+    io::write_all(
+        STDERR_FILENO,
+        b"console: it takes no arguments: calls come as lines on standard input, see docs/CONSOLE.md\n",
+    );
+}
+
+fn main() {
+    if 1 < os::arg_count() {
+        explain();
+        return;
+    }
+    play();
 }

@@ -1,7 +1,9 @@
-// Plays run files, and writes their listings to standard output: each file that is named, or standard input where none is. A file that
-// cannot be read is said on standard error and has no listing.
+// Plays run files, and writes their listings to standard output: each file that is named, with `-` for standard input, or standard input
+// where none is. A file that cannot be read is said on standard error and has no listing; where a listing cannot be written, that is said
+// there too, and nothing more is played.
+use check::same;
+use libc::STDERR_FILENO;
 use libc::STDIN_FILENO;
-use libc::STDOUT_FILENO;
 use listingout::put_broken;
 use listingout::put_commands;
 use nightrun::walk::Walk;
@@ -9,6 +11,10 @@ use nightrun::walk::open;
 use nightrun::walk::turn;
 use plaques::copy_bytes;
 use state::State;
+use streams::Got;
+use streams::is_help;
+use streams::put;
+use streams::take;
 ghost use mathlib.Core.Path.{_≡_};
 ghost use mathlib.Core.Bool.{false};
 ghost use Prim.Native.Nat.{_<_, _≤_};
@@ -17,14 +23,8 @@ ghost use Rattle.meaning.specs.Bench.{full};
 ghost use Rattle.state.specs.Machine.{machine};
 ghost use Rattle.state.specs.Consistent.{unfit};
 
-// How many bytes of a file were read, and whether all of them could be.
-struct Got {
-    n: usize,
-    ok: bool,
-}
-
-// A line for each command.
-fn write_turns(file: &[u8], begun: Walk, s: State, store: &mut [u16], plaques: &mut [u8])
+// A line for each command. The results from here on say whether they could be written.
+fn write_turns(file: &[u8], begun: Walk, s: State, store: &mut [u16], plaques: &mut [u8]) -> bool
     requires { ⌜ (begun .ended ≡ false) × (begun .at ≤ length (now file)) ⌝ }
     requires { ⌜ unfit full (machine s (now store) (now plaques)) ≡ 0 ⌝ }
 {
@@ -34,26 +34,30 @@ fn write_turns(file: &[u8], begun: Walk, s: State, store: &mut [u16], plaques: &
     while !w.ended {
         let r = turn(file, w, t, store, plaques, &mut line, 0);
         let n = r.at;
-        io::write_all(STDOUT_FILENO, &line[..n]);
+        if !put(&line[..n]) {
+            return false;
+        }
         w = r.walk;
         t = r.state;
     }
+    true
 }
 
-fn write_listing(file: &[u8]) {
+fn write_listing(file: &[u8]) -> bool {
     let mut store = [0u16; 4096];
     let mut plaques = [0u8; 16384];
     let o = open(file, state::fresh(), &store, &mut plaques);
     let mut line = [0u8; 15];
     if !o.fine {
         let n = put_broken(&mut line, 0);
-        io::write_all(STDOUT_FILENO, &line[..n]);
-        return;
+        return put(&line[..n]);
     }
     let begun = o.walk;
     let n = put_commands(&mut line, 0, begun.left);
-    io::write_all(STDOUT_FILENO, &line[..n]);
-    write_turns(file, begun, o.state, &mut store, &mut plaques);
+    if !put(&line[..n]) {
+        return false;
+    }
+    write_turns(file, begun, o.state, &mut store, &mut plaques)
 }
 
 // Adds bytes behind the first n of a file, as many as there is room for; the result is how many it then has.
@@ -77,13 +81,10 @@ fn read_file(fd: i32, file: &mut [u8]) -> Got
     let mut chunk = io::buffer();
     let mut n = 0;
     while n < file.len() {
-        let got = libc::read(fd, &mut chunk);
-        if got < 0 {
-            return Got { n, ok: false };
-        }
-        let more = io::count(got, &chunk);
+        let got = take(fd, &mut chunk);
+        let more = got.n;
         if more == 0 {
-            return Got { n, ok: true };
+            return Got { n, ok: got.ok };
         }
         n = add(file, n, &chunk[..more]);
     }
@@ -91,42 +92,77 @@ fn read_file(fd: i32, file: &mut [u8]) -> Got
 }
 
 // A byte more than a run file may have shows that it is too long.
-fn play(fd: i32, name: &[u8]) {
+fn play(fd: i32, name: &[u8]) -> bool {
     let mut file = [0u8; 65537];
     let got = read_file(fd, &mut file);
     if !got.ok {
         os::fail(name);
-        return;
+        return true;
     }
     let n = got.n;
-    write_listing(&file[..n]);
+    write_listing(&file[..n])
 }
 
-fn play_named(i: usize) {
-    let mut path = io::buffer();
-    let length = os::arg(i, &mut path);
+fn play_file(name: &[u8]) -> bool {
+    let fd = os::open_read(name);
+    if fd < 0 {
+        if name.len() == 0 {
+            os::fail(b"empty file name");
+        } else {
+            os::fail(name);
+        }
+        return true;
+    }
+    let written = play(fd, name);
+    libc::close(fd);
+    written
+}
+
+// No file is played after an option.
+fn explain(option: &[u8]) {
+    if is_help(option) {
+        put(b"usage: night [FILE..]\n");
+        put(
+            b"Plays run files and writes their listings. No FILE, or -: standard input. See docs/NIGHT.md\n",
+        );
+        return;
+    }
+    io::write_all(STDERR_FILENO, b"night: no such option: ");
+    io::write_all(STDERR_FILENO, option);
+    io::write_all(STDERR_FILENO, b" (a file of that name is ./");
+    io::write_all(STDERR_FILENO, option);
+    io::write_all(STDERR_FILENO, b")\n");
+}
+
+fn play_word(word: &[u8]) -> bool {
+    if same(word, b"-") {
+        return play(STDIN_FILENO, b"standard input");
+    }
+    if 0 < word.len() && word[0] == b'-' {
+        explain(word);
+        return false;
+    }
+    play_file(word)
+}
+
+fn play_argument(i: usize) -> bool {
+    let mut word = io::buffer();
+    let length = os::arg(i, &mut word);
     if os::errno() != 0 {
         os::fail(b"file name");
-        return;
+        return true;
     }
-    let fd = os::open_read(&path[..length]);
-    if fd < 0 {
-        os::fail(&path[..length]);
-        return;
-    }
-    play(fd, &path[..length]);
-    libc::close(fd);
+    play_word(&word[..length])
 }
 
 fn main() {
-    let files = os::arg_count();
-    if files < 2 {
+    let words = os::arg_count();
+    if words < 2 {
         play(STDIN_FILENO, b"standard input");
         return;
     }
     let mut i = 1;
-    while i < files {
-        play_named(i);
+    while i < words && play_argument(i) {
         i += 1;
     }
 }

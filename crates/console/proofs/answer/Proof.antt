@@ -14,13 +14,23 @@ talk-requires : tie.Need-talk-requires
 talk-requires c κs = search needs
 
 array-share-prefix-out : tie.Need-array-share-prefix-out
-array-share-prefix-out c = omega (arith, c .before .before .before .before .before .talk .ensures .room, c .before .before .before .before .before .talk .kept .1 .1 .1 .1 .0)
+array-share-prefix-out c =
+    omega (
+      arith,
+      c .before .before .before .before .before .talk .ensures .room,
+      c .before .before .before .before .before .talk .kept .1 .1 .1 .1 .0,
+    )
 
-slice-aggregate-write-all : tie.Need-slice-aggregate-write-all
-slice-aggregate-write-all c = sym (length-take-le _ _ (omega (arith, c .before .before .before .before .before .before .talk .ensures .room, c .before .before .before .before .before .before .talk .kept .1 .1 .1 .1 .0)))
+slice-aggregate-put : tie.Need-slice-aggregate-put
+slice-aggregate-put c =
+    sym (length-take-le _ _ (omega (
+      arith,
+      c .before .before .before .before .before .before .talk .ensures .room,
+      c .before .before .before .before .before .before .talk .kept .1 .1 .1 .1 .0,
+    )))
 
-write-all-requires : tie.Need-write-all-requires
-write-all-requires c κs = search needs
+put-requires : tie.Need-put-requires
+put-requires c κs = search needs
 
 same-length : tie.Need-same-length
 same-length c = search needs
@@ -29,7 +39,9 @@ same-length-2 : tie.Need-same-length-2
 same-length-2 c = search needs
 
 returns : tie.Need-returns
-returns c = plays-fit full _ (c .before .before .before .before .before .before .before .before .before .before .before .before .before .before .before .pre) (c .before .before .before .before .before .before .before .before .talk .ensures)
+returns c =
+    plays-fit full _ (c .before .before .before .before .before .before .before .before .before .before .before .before .before .before
+    .before .pre) (c .before .before .before .before .before .before .before .before .talk .ensures)
 
 pub answer-spec : {M : Type 1} → statement M
 answer-spec =
@@ -38,8 +50,8 @@ answer-spec =
     slice-aggregate-talk
     talk-requires
     array-share-prefix-out
-    slice-aggregate-write-all
-    write-all-requires
+    slice-aggregate-put
+    put-requires
     same-length
     same-length-2
     returns)

@@ -24,10 +24,17 @@ returns : tie.Need-returns
 returns c = search needs
 
 slice-aggregate-copy-bytes : tie.Need-slice-aggregate-copy-bytes
-slice-aggregate-copy-bytes c = sym (length-take-le (length (now (c .before .before .before .before .args .file)) - c .before .before .before .before .args .n) (now (c .before .before .before .before .args .bytes)) (omega arith))
+slice-aggregate-copy-bytes c =
+    sym (length-take-le (length (now (c .before .before .before .before .args .file)) - c .before .before .before .before .args .n) (now
+    (c .before .before .before .before .args .bytes)) (omega arith))
 
 copy-bytes-requires-2 : tie.Need-copy-bytes-requires-2
-copy-bytes-requires-2 c κs = omega (arith, length-take-le (length (now (c .before .before .before .before .before .args .file)) - c .before .before .before .before .before .args .n) (now (c .before .before .before .before .before .args .bytes)) (omega arith))
+copy-bytes-requires-2 c κs =
+    omega (
+      arith,
+      length-take-le (length (now (c .before .before .before .before .before .args .file)) - c .before .before .before
+          .before .before .args .n) (now (c .before .before .before .before .before .args .bytes)) (omega arith),
+    )
 
 add-result-2 : tie.Need-add-result-2
 add-result-2 c = search needs

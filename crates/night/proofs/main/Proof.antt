@@ -4,10 +4,10 @@ use Rattle.night.proofs.main.Statement.{statement}
 use Rattle.night.proofs.main.Tie as tie
 
 abbrev Inv-loop : tie.InvT-loop
-Inv-loop files i₀ i = i ≤ files
+Inv-loop words i₀ i = i ≤ words
 
 abbrev μ-loop : tie.MeasureT-loop
-μ-loop files i₀ i = files - i
+μ-loop words i₀ i = words - i
 
 arg-count-requires : tie.Need-arg-count-requires Inv-loop μ-loop
 arg-count-requires c κs = search needs
@@ -24,8 +24,8 @@ returns c = search needs
 loop-holds : tie.Need-loop-holds Inv-loop μ-loop
 loop-holds c = search needs
 
-play-named-requires : tie.Need-play-named-requires Inv-loop μ-loop
-play-named-requires c κs = search needs
+play-argument-requires : tie.Need-play-argument-requires Inv-loop μ-loop
+play-argument-requires c κs = search needs
 
 add-i : tie.Need-add-i Inv-loop μ-loop
 add-i c = search needs
@@ -39,6 +39,9 @@ loop-again c = search needs
 returns-2 : tie.Need-returns-2 Inv-loop μ-loop
 returns-2 c = search needs
 
+returns-3 : tie.Need-returns-3 Inv-loop μ-loop
+returns-3 c = search needs
+
 pub main-spec : {M : Type 1} → statement M
 main-spec =
     tie.close
@@ -50,8 +53,9 @@ main-spec =
     play-requires
     returns
     loop-holds
-    play-named-requires
+    play-argument-requires
     add-i
     loop-less
     loop-again
-    returns-2)
+    returns-2
+    returns-3)

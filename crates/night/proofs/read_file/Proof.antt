@@ -19,11 +19,11 @@ buffer-requires c κs = search needs
 loop-holds : tie.Need-loop-holds Inv-loop μ-loop
 loop-holds c = search needs
 
-slice-aggregate-read : tie.Need-slice-aggregate-read Inv-loop μ-loop
-slice-aggregate-read c = search needs
+slice-aggregate-take : tie.Need-slice-aggregate-take Inv-loop μ-loop
+slice-aggregate-take c = search needs
 
-read-requires : tie.Need-read-requires Inv-loop μ-loop
-read-requires c κs = search needs
+take-requires : tie.Need-take-requires Inv-loop μ-loop
+take-requires c κs = search needs
 
 same-length : tie.Need-same-length Inv-loop μ-loop
 same-length c = search needs
@@ -31,29 +31,17 @@ same-length c = search needs
 returns : tie.Need-returns Inv-loop μ-loop
 returns c = search needs
 
-slice-aggregate-count : tie.Need-slice-aggregate-count Inv-loop μ-loop
-slice-aggregate-count c = search needs
-
-count-requires : tie.Need-count-requires Inv-loop μ-loop
-count-requires c κs = search needs
-
-same-length-2 : tie.Need-same-length-2 Inv-loop μ-loop
-same-length-2 c = search needs
-
-returns-2 : tie.Need-returns-2 Inv-loop μ-loop
-returns-2 c = search needs
-
 array-share-prefix-chunk : tie.Need-array-share-prefix-chunk Inv-loop μ-loop
-array-share-prefix-chunk c = omega (arith, c .before .before .count .ensures, c .before .before .before .before .before .before .before .before .before .loop .inv .1)
+array-share-prefix-chunk c = search needs
 
 slice-aggregate-add : tie.Need-slice-aggregate-add Inv-loop μ-loop
-slice-aggregate-add c = sym (length-take-le (c .before .before .before .count .result) _ (omega (arith, c .before .before .before .count .ensures, c .before .before .before .before .before .before .before .before .before .before .loop .inv .1)))
+slice-aggregate-add c =
+    sym (length-take-le (c .before .before .before .before .take .result .n) _ (c .before .before .before .before .take .ensures))
 
 add-requires : tie.Need-add-requires Inv-loop μ-loop
 add-requires c κs =
-    let k = c .before .before .before .count .result in
-    let l = c .before .before .before .before .before .before .before .read .last .1 .0 in
-    (omega arith, omega (arith, length-take-le k l (omega (arith, c .before .before .before .count .ensures))))
+    let t = c .before .before .before .before .take in
+    (search needs, omega (arith, length-take-le (t .result .n) (t .last .1 .0) (t .ensures)))
 
 loop-less : tie.Need-loop-less Inv-loop μ-loop
 loop-less c = omega (arith, c .before .before .add .ensures)
@@ -61,11 +49,11 @@ loop-less c = omega (arith, c .before .before .add .ensures)
 loop-again : tie.Need-loop-again Inv-loop μ-loop
 loop-again c = (search needs, search needs, c .before .before .add .ensures .1)
 
-same-length-3 : tie.Need-same-length-3 Inv-loop μ-loop
-same-length-3 c = search needs
+same-length-2 : tie.Need-same-length-2 Inv-loop μ-loop
+same-length-2 c = search needs
 
-returns-3 : tie.Need-returns-3 Inv-loop μ-loop
-returns-3 c = search needs
+returns-2 : tie.Need-returns-2 Inv-loop μ-loop
+returns-2 c = search needs
 
 pub read-file-spec : {M : Type 1} → statement M
 read-file-spec =
@@ -75,18 +63,14 @@ read-file-spec =
     μ-loop
     buffer-requires
     loop-holds
-    slice-aggregate-read
-    read-requires
+    slice-aggregate-take
+    take-requires
     same-length
     returns
-    slice-aggregate-count
-    count-requires
-    same-length-2
-    returns-2
     array-share-prefix-chunk
     slice-aggregate-add
     add-requires
     loop-less
     loop-again
-    same-length-3
-    returns-3)
+    same-length-2
+    returns-2)

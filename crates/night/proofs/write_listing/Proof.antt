@@ -29,11 +29,16 @@ put-broken-requires c κs = search needs
 array-share-prefix-line : tie.Need-array-share-prefix-line
 array-share-prefix-line c = omega (arith, c .before .put-broken .ensures .next, length-broken)
 
-slice-aggregate-write-all : tie.Need-slice-aggregate-write-all
-slice-aggregate-write-all c = sym (length-take-le (c .before .before .put-broken .result) _ (omega (arith, c .before .before .put-broken .ensures .next, length-broken)))
+slice-aggregate-put : tie.Need-slice-aggregate-put
+slice-aggregate-put c =
+    sym (length-take-le (c .before .before .put-broken .result) _ (omega (
+      arith,
+      c .before .before .put-broken .ensures .next,
+      length-broken,
+    )))
 
-write-all-requires : tie.Need-write-all-requires
-write-all-requires c κs = search needs
+put-requires : tie.Need-put-requires
+put-requires c κs = search needs
 
 returns : tie.Need-returns
 returns c = search needs
@@ -45,13 +50,30 @@ put-commands-requires : tie.Need-put-commands-requires
 put-commands-requires c κs = search needs
 
 array-share-prefix-line-2 : tie.Need-array-share-prefix-line-2
-array-share-prefix-line-2 c = omega (arith, commands-room (c .before .before .before .before .before .before .before .«open» .result .walk .left) (c .before .put-commands .ensures) (omega (arith, c .before .before .before .before .before .struct-known .given .1 .0 .1 .0)))
+array-share-prefix-line-2 c =
+    omega (
+      arith,
+      commands-room (c .before .before .before .before .before .before .before .«open» .result .walk .left)
+          (c .before .put-commands .ensures) (omega (arith, c .before .before .before .before .before .struct-known .given .1 .0 .1 .0)),
+    )
 
-slice-aggregate-write-all-2 : tie.Need-slice-aggregate-write-all-2
-slice-aggregate-write-all-2 c = sym (length-take-le (c .before .before .put-commands .result) _ (omega (arith, commands-room (c .before .before .before .before .before .before .before .before .«open» .result .walk .left) (c .before .before .put-commands .ensures) (omega (arith, c .before .before .before .before .before .before .struct-known .given .1 .0 .1 .0)))))
+slice-aggregate-put-2 : tie.Need-slice-aggregate-put-2
+slice-aggregate-put-2 c =
+    sym (length-take-le (c .before .before .put-commands .result) _ (omega (
+      arith,
+      commands-room
+          (c .before .before .before .before .before .before .before .before .«open» .result .walk .left)
+          (c .before .before .put-commands .ensures) (omega (
+            arith,
+            c .before .before .before .before .before .before .struct-known .given .1 .0 .1 .0,
+          )),
+    )))
 
-write-all-requires-2 : tie.Need-write-all-requires-2
-write-all-requires-2 c κs = search needs
+put-requires-2 : tie.Need-put-requires-2
+put-requires-2 c κs = search needs
+
+returns-2 : tie.Need-returns-2
+returns-2 c = search needs
 
 slice-aggregate-write-turns : tie.Need-slice-aggregate-write-turns
 slice-aggregate-write-turns c = search needs
@@ -60,10 +82,13 @@ slice-aggregate-write-turns-2 : tie.Need-slice-aggregate-write-turns-2
 slice-aggregate-write-turns-2 c = search needs
 
 write-turns-requires : tie.Need-write-turns-requires
-write-turns-requires c κs = ((c .before .before .before .before .before .before .before .before .before .before .before .«open» .ensures .going (not-false _ (c .before .before .before .before .before .before .before .before .if1 .left)), c .before .before .before .before .before .before .before .before .before .before .before .«open» .ensures .inside (not-false _ (c .before .before .before .before .before .before .before .before .if1 .left))), c .before .before .before .before .before .before .before .before .before .before .before .«open» .ensures .sound)
+write-turns-requires c κs =
+    let opened = c .before .before .before .before .before .before .before .before .before .before .before .before .«open» .ensures in
+    let fine = not-false _ (c .before .before .before .before .before .before .before .before .before .if1 .left) in
+    ((opened .going fine, opened .inside fine), opened .sound)
 
-returns-2 : tie.Need-returns-2
-returns-2 c = search needs
+returns-3 : tie.Need-returns-3
+returns-3 c = search needs
 
 pub write-listing-spec : {M : Type 1} → statement M
 write-listing-spec =
@@ -76,15 +101,16 @@ write-listing-spec =
     slice-aggregate-put-broken
     put-broken-requires
     array-share-prefix-line
-    slice-aggregate-write-all
-    write-all-requires
+    slice-aggregate-put
+    put-requires
     returns
     slice-aggregate-put-commands
     put-commands-requires
     array-share-prefix-line-2
-    slice-aggregate-write-all-2
-    write-all-requires-2
+    slice-aggregate-put-2
+    put-requires-2
+    returns-2
     slice-aggregate-write-turns
     slice-aggregate-write-turns-2
     write-turns-requires
-    returns-2)
+    returns-3)

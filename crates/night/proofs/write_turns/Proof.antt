@@ -28,22 +28,31 @@ slice-aggregate-turn : tie.Need-slice-aggregate-turn Inv-loop μ-loop
 slice-aggregate-turn c = sym (c .before .before .before .before .before .loop .inv .0)
 
 turn-requires : tie.Need-turn-requires Inv-loop μ-loop
-turn-requires c κs = ((not-true _ (c .before .before .before .if1 .taken), c .before .before .before .before .before .loop .inv .1, omega (arith, c .before .before .before .before .before .loop .inv .0)), c .before .before .before .before .before .loop .inv .4)
+turn-requires c κs = (
+  (
+    not-true _ (c .before .before .before .if1 .taken),
+    c .before .before .before .before .before .loop .inv .1,
+    omega (
+      arith,
+      c .before .before .before .before .before .loop .inv .0,
+    ),
+  ),
+  c .before .before .before .before .before .loop .inv .4,
+)
 
 array-share-prefix-line : tie.Need-array-share-prefix-line Inv-loop μ-loop
 array-share-prefix-line c = omega (arith, c .before .before .before .before .before .turn .ensures .room)
 
-slice-aggregate-write-all : tie.Need-slice-aggregate-write-all Inv-loop μ-loop
-slice-aggregate-write-all c = sym (length-take-le (c .before .before .before .before .before .before .turn .result .at) _ (omega (arith, c .before .before .before .before .before .before .turn .ensures .room, c .before .before .before .before .before .before .before .before .before .before .before .before .loop .inv .0)))
+slice-aggregate-put : tie.Need-slice-aggregate-put Inv-loop μ-loop
+slice-aggregate-put c =
+    sym (length-take-le (c .before .before .before .before .before .before .turn .result .at) _ (omega (
+      arith,
+      c .before .before .before .before .before .before .turn .ensures .room,
+      c .before .before .before .before .before .before .before .before .before .before .before .before .loop .inv .0,
+    )))
 
-write-all-requires : tie.Need-write-all-requires Inv-loop μ-loop
-write-all-requires c κs = search needs
-
-loop-less : tie.Need-loop-less Inv-loop μ-loop
-loop-less c = fuel-less (now (c .before .before .before .before .before .before .before .before .before .before .before .before .before .before .before .before .before .before .before .args .file)) (c .before .before .before .before .before .before .before .before .before .before .before .before .before .before .before .loop .w) (c .before .before .before .before .before .before .before .before .before .turn .result .walk) (not-true _ (c .before .before .before .before .before .before .before .before .before .before .before .before .before .if1 .taken)) (c .before .before .before .before .before .before .before .before .before .before .before .before .before .before .before .loop .inv .1) (c .before .before .before .before .before .before .before .before .before .turn .ensures .on)
-
-loop-again : tie.Need-loop-again Inv-loop μ-loop
-loop-again c = (search needs, c .before .before .before .before .before .before .before .before .before .turn .ensures .inside, search needs, search needs, c .before .before .before .before .before .before .before .before .before .turn .ensures .sound)
+put-requires : tie.Need-put-requires Inv-loop μ-loop
+put-requires c κs = search needs
 
 same-length : tie.Need-same-length Inv-loop μ-loop
 same-length c = search needs
@@ -53,6 +62,35 @@ same-length-2 c = search needs
 
 returns : tie.Need-returns Inv-loop μ-loop
 returns c = search needs
+
+loop-less : tie.Need-loop-less Inv-loop μ-loop
+loop-less c =
+    fuel-less (now (c .before .before .before .before .before .before .before .before .before .before .before .before .before .before
+    .before .before .before .before .before .before .args .file))
+    (c .before .before .before .before .before .before .before .before .before .before .before .before .before .before .before
+    .before .loop .w) (c .before .before .before .before .before .before .before .before .before .before .turn .result .walk)
+    (not-true _ (c .before .before .before .before .before .before .before .before .before .before .before .before .before .before
+    .if1 .taken)) (c .before .before .before .before .before .before .before .before .before .before .before .before .before .before
+    .before .before .loop .inv .1) (c .before .before .before .before .before .before .before .before .before .before .turn .ensures
+    .on)
+
+loop-again : tie.Need-loop-again Inv-loop μ-loop
+loop-again c = (
+  search needs,
+  c .before .before .before .before .before .before .before .before .before .before .turn .ensures .inside,
+  search needs,
+  search needs,
+  c .before .before .before .before .before .before .before .before .before .before .turn .ensures .sound,
+)
+
+same-length-3 : tie.Need-same-length-3 Inv-loop μ-loop
+same-length-3 c = search needs
+
+same-length-4 : tie.Need-same-length-4 Inv-loop μ-loop
+same-length-4 c = search needs
+
+returns-2 : tie.Need-returns-2 Inv-loop μ-loop
+returns-2 c = search needs
 
 pub write-turns-spec : {M : Type 1} → statement M
 write-turns-spec =
@@ -64,10 +102,13 @@ write-turns-spec =
     slice-aggregate-turn
     turn-requires
     array-share-prefix-line
-    slice-aggregate-write-all
-    write-all-requires
-    loop-less
-    loop-again
+    slice-aggregate-put
+    put-requires
     same-length
     same-length-2
-    returns)
+    returns
+    loop-less
+    loop-again
+    same-length-3
+    same-length-4
+    returns-2)

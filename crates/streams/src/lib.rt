@@ -1,0 +1,77 @@
+// Reading and writing as a program meets them: a call may move fewer bytes than it is lent, a signal may interrupt it, and a pipe or a
+// terminal that another program left non-blocking answers EAGAIN in place of waiting. None of these loses a byte here.
+use check::same;
+use libc::STDOUT_FILENO;
+ghost use lib.ListN.{length};
+ghost use Prim.Native.Nat.{_≤_};
+
+// How often a call that moved nothing is made again. (No night lasts as long; the count shows the prover that it ends.)
+const PATIENCE: u64 = u64::MAX;
+
+// Whether a call that answered less than 1 is to be made again; it has then waited a little. errno stays as the call left it.
+fn again(got: isize) -> bool {
+    if got == 0 {
+        return false;
+    }
+    let error = os::errno();
+    if error == libc::EINTR {
+        return true;
+    }
+    if error != libc::EAGAIN {
+        return false;
+    }
+    libc::sched_yield();
+    true
+}
+
+// Writes all of the bytes to standard output and answers true, or says on standard error why it cannot and answers false.
+pub fn put(bytes: &[u8]) -> bool {
+    let mut at = 0;
+    let mut tries = PATIENCE;
+    while at < bytes.len() && 0 < tries {
+        let got = libc::write(STDOUT_FILENO, &bytes[at..]);
+        let n = io::count(got, &bytes[at..]);
+        if 0 < n {
+            at += n;
+            continue;
+        }
+        if !again(got) {
+            break;
+        }
+        tries -= 1;
+    }
+    if at < bytes.len() {
+        os::fail(b"standard output");
+        return false;
+    }
+    true
+}
+
+// How many bytes were read, and whether any could be.
+pub struct Got {
+    pub n: usize,
+    pub ok: bool,
+}
+
+// Reads some bytes to the front of what is lent, none at the end of the input. It waits where there is nothing yet.
+pub fn take(fd: i32, bytes: &mut [u8]) -> Got
+    ensures { λ r. ⌜ r .n ≤ length (now (bytes .exit)) ⌝ }
+{
+    let mut tries = PATIENCE;
+    while 0 < tries {
+        let got = libc::read(fd, bytes);
+        if 0 <= got {
+            let n = io::count(got, bytes);
+            return Got { n, ok: true };
+        }
+        if !again(got) {
+            break;
+        }
+        tries -= 1;
+    }
+    Got { n: 0, ok: false }
+}
+
+pub fn is_help(word: &[u8]) -> bool {
+    same(word, b"-h") || same(word, b"--help")
+}
