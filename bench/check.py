@@ -1,13 +1,15 @@
 #!/usr/bin/env python3
 """Document 01 once more, in Python, apart from bench/plain: the second source of the expected results.
 
-  check.py                 plays every .run of crates/night/data and every .in of bench/data, and compares with .listing and .out;
-                           and compares what `night` is to write in the gate with the listings of its files
-  check.py night FILE      writes the listing of a run file
+  check.py                 compares every result that is written down with its own: each .listing of crates/night/data, each .out of
+                           bench/data, what the gate's programs (night, console, tour, guide) are to write, and the answers in docs/
+  check.py night [FILE]    writes the listing of a run file
   check.py console [FILE]  writes the console's lines out
+  check.py tour            writes the tour's lines
 """
 import pathlib
 import re
+import subprocess
 import sys
 
 READERS = range(1, 17)
@@ -300,31 +302,84 @@ def console(text):
     return ''.join(line + '\n' for line in talk(text)[1]).encode()
 
 
-def check_all(root):
-    wrong = done = 0
-    night_crate = root / 'crates' / 'night'
-    for folder, source, wanted, play in [(night_crate / 'data', '*.run', '.listing', night),
+TOUR_STAMP = (3, 19, 10, 11, 36)
+
+
+def tour():
+    """At each reader a plaque arrives and three of its bytes are read; the gateway's name is asked for; each answer is handed over. Then,
+    on a fresh gateway, 79 is sent until the handover number has gone around."""
+    g, lines = Gateway(), []
+    for node in NODES:
+        if node == 32:
+            packet = [6, 0xAA11, node, 0, 0, 0]
+        else:
+            g.arrive(node, bytes.fromhex('E0040100002E16AD'), bytes([node, 0x22, 0x33, 0x44]))
+            packet = [6, 0xAA05, node, 2000, 0, 3]
+        g.command(TOUR_STAMP, packet, False)
+        handover, answer = g.collect(node, True)
+        g.acknowledge(node, handover)
+        lines.append(hexed(answer))
+    g = Gateway()
+    for sent in range(1, 65537):
+        g.command(TOUR_STAMP, [6, 0xAA79, 32, 0, 0, 0], False)
+        if sent >= 65535:
+            handover, answer = g.collect(32, True)
+            lines.append('collected %d %s' % (handover, hexed(answer)))
+    return ''.join(line + '\n' for line in lines).encode()
+
+
+def guide(root):
+    """The worked packets' own column, by tools/guide_expected.py."""
+    with open(root / 'crates' / 'guide' / 'stdin', 'rb') as packets:
+        return subprocess.run([sys.executable, root / 'tools' / 'guide_expected.py'], stdin=packets, capture_output=True, check=True).stdout
+
+
+def gate_night(crate):
+    """The files that the gate names, - for its standard input."""
+    names = (crate / 'args').read_text().split()
+    return b''.join(night((crate / 'stdin' if name == '-' else crate / 'data' / name).read_bytes()) for name in names)
+
+
+def hour(text):
+    """What was typed and what came back in docs/CONSOLE.md."""
+    shown = [line for block in re.findall('\n```\n(.*?)```', text, re.S) for line in block.splitlines()]
+    typed = ''.join(line[2:] + '\n' for line in shown if line.startswith('> '))
+    return typed.encode(), ''.join(line + '\n' for line in shown if not line.startswith('> ')).encode()
+
+
+def comparisons(root):
+    """Each with its name, our result, and the one that is written down."""
+    crates = root / 'crates'
+    for folder, source, wanted, play in [(crates / 'night' / 'data', '*.run', '.listing', night),
                                          (root / 'bench' / 'data', '*.in', '.out', console)]:
         for path in sorted(folder.glob(source)):
-            done += 1
-            if play(path.read_bytes()) != path.with_suffix(wanted).read_bytes():
-                print(path.name, 'gives another', wanted[1:])
-                wrong += 1
-    names = (night_crate / 'args').read_text().split()
-    if b''.join(night((night_crate / 'data' / name).read_bytes()) for name in names) != (night_crate / 'stdout').read_bytes():
-        print('the listings of the files in crates/night/args are not crates/night/stdout')
-        wrong += 1
-    talk_crate = root / 'crates' / 'console'
-    if console((talk_crate / 'stdin').read_bytes()) != (talk_crate / 'stdout').read_bytes():
-        print('the conversation in crates/console/stdin does not give crates/console/stdout')
-        wrong += 1
-    print('%d played, %d differ' % (done, wrong))
-    return 1 if wrong or not done else 0
+            yield path.name, play(path.read_bytes()), path.with_suffix(wanted).read_bytes()
+    for name, ours in [('night', gate_night(crates / 'night')), ('console', console((crates / 'console' / 'stdin').read_bytes())),
+                       ('tour', tour()), ('guide', guide(root))]:
+        yield 'crates/%s/stdout' % name, ours, (crates / name / 'stdout').read_bytes()
+    listing = (root / 'docs' / 'NIGHT.md').read_text().split('Its listing:\n\n```\n')[1].split('```')[0]
+    yield 'docs/NIGHT.md', night((crates / 'night' / 'data' / 'sample.run').read_bytes()), listing.encode()
+    typed, shown = hour((root / 'docs' / 'CONSOLE.md').read_text())
+    yield 'docs/CONSOLE.md', console(typed), shown
+
+
+def check_all(root):
+    done = wrong = 0
+    for name, ours, written in comparisons(root):
+        done += 1
+        if ours != written:
+            print('%s: what is written down is not what document 01 gives' % name)
+            wrong += 1
+    print('%d compared, %d differ' % (done, wrong))
+    return 1 if wrong else 0
 
 
 def main(args):
     if not args:
         return check_all(pathlib.Path(__file__).resolve().parent.parent)
+    if args[0] == 'tour':
+        sys.stdout.buffer.write(tour())
+        return 0
     text = pathlib.Path(args[1]).read_bytes() if len(args) > 1 else sys.stdin.buffer.read()
     sys.stdout.buffer.write({'night': night, 'console': console}[args[0]](text))
     return 0

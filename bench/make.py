@@ -1,6 +1,6 @@
 #!/usr/bin/env python3
-"""Makes run files with their listings (crates/night/data, and what `night` writes for all of them in the gate), and conversations with
-the console's lines out (bench/data, and all of them as one in the gate: crates/console), all by bench/plain.
+"""Makes run files with their listings (crates/night/data, and what `night` writes for all of them and its standard input in the gate), and
+conversations with the console's lines out (bench/data, and all of them as one in the gate: crates/console), all by bench/plain.
 
   make.py FOLDER     FOLDER has plain-night and plain-console (target/bench after bench/run)
 
@@ -141,6 +141,28 @@ def broken_files():
         'count-0': patched(start, 0),
         'first-command': patched(first + 5, 5),
     }
+
+
+def of_length(length):
+    """A sound run file of that many bytes: large plaques and one command, so that its listing is short."""
+    left = length - 2 - 2 - 17
+    plaques = []
+    while left:
+        size = min(left - 11, 1024)
+        # no rest that is shorter than a plaque of one byte
+        size -= 12 if 0 < left - 11 - size < 12 else 0
+        plaques.append(plaque(len(plaques) % 16 + 1, bytes([len(plaques) % 256]) * size))
+        left -= 11 + size
+    return run_file(plaques, [command(5, 2, 2000, 0, 3)])
+
+
+def limit_files():
+    """Around the most bytes that a file may have. Each is sound but for its length, so that only the limit makes it broken."""
+    return {'limit-%d' % n: of_length(n) for n in (65535, 65536, 65537, 200000)}
+
+
+# a byte more than the most: without it the file would be sound
+TOO_LONG = of_length(65536) + b'\0'
 
 
 # ---- conversations
@@ -363,13 +385,15 @@ def played(folder, program, content):
 
 def make_files(folder):
     files = {'sample': sample(), 'example': pack(EXAMPLE), 'all': run_file(*all_of_it())}
+    files.update(limit_files())
     files.update(('broken-%s' % name, file) for name, file in broken_files().items())
     listings = {name: played(folder, 'plain-night', content) for name, content in files.items()}
     for name, content in files.items():
         (NIGHT / 'data' / (name + '.run')).write_bytes(content)
         (NIGHT / 'data' / (name + '.listing')).write_bytes(listings[name])
-    (NIGHT / 'args').write_text(''.join(name + '.run\n' for name in files))
-    (NIGHT / 'stdout').write_bytes(b''.join(listings.values()))
+    (NIGHT / 'stdin').write_bytes(TOO_LONG)
+    (NIGHT / 'args').write_text('-\n' + ''.join(name + '.run\n' for name in files))
+    (NIGHT / 'stdout').write_bytes(played(folder, 'plain-night', TOO_LONG) + b''.join(listings.values()))
 
 
 def make_talks(folder):
