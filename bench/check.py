@@ -2,7 +2,8 @@
 """Document 01 once more, in Python, apart from bench/plain: the second source of the expected results.
 
   check.py                 compares every result that is written down with its own: each .listing of crates/night/data, each .out of
-                           bench/data, what the gate's programs (night, console, tour, guide) are to write, and the answers in docs/
+                           bench/data, what the gate's programs (night, console, tour, guide) are to write, and the answers in README
+                           and docs/
   check.py night [FILE]    writes the listing of a run file
   check.py console [FILE]  writes the console's lines out
   check.py tour            writes the tour's lines
@@ -340,9 +341,13 @@ def gate_night(crate):
     return b''.join(night((crate / 'stdin' if name == '-' else crate / 'data' / name).read_bytes()) for name in names)
 
 
-def hour(text):
+def blocks(path):
+    return re.findall('\n```\n(.*?)```', path.read_text(), re.S)
+
+
+def hour(path):
     """What was typed and what came back in docs/CONSOLE.md."""
-    shown = [line for block in re.findall('\n```\n(.*?)```', text, re.S) for line in block.splitlines()]
+    shown = [line for block in blocks(path) for line in block.splitlines()]
     typed = ''.join(line[2:] + '\n' for line in shown if line.startswith('> '))
     return typed.encode(), ''.join(line + '\n' for line in shown if not line.startswith('> ')).encode()
 
@@ -357,10 +362,12 @@ def comparisons(root):
     for name, ours in [('night', gate_night(crates / 'night')), ('console', console((crates / 'console' / 'stdin').read_bytes())),
                        ('tour', tour()), ('guide', guide(root))]:
         yield 'crates/%s/stdout' % name, ours, (crates / name / 'stdout').read_bytes()
-    listing = (root / 'docs' / 'NIGHT.md').read_text().split('Its listing:\n\n```\n')[1].split('```')[0]
+    listing = blocks(root / 'docs' / 'NIGHT.md')[-1]
     yield 'docs/NIGHT.md', night((crates / 'night' / 'data' / 'sample.run').read_bytes()), listing.encode()
-    typed, shown = hour((root / 'docs' / 'CONSOLE.md').read_text())
+    typed, shown = hour(root / 'docs' / 'CONSOLE.md')
     yield 'docs/CONSOLE.md', console(typed), shown
+    typed, shown = blocks(root / 'README.md')[:2]
+    yield 'README.md', console(typed.encode()), shown.encode()
 
 
 def check_all(root):
