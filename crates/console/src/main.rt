@@ -36,7 +36,7 @@ fn answer(s: State, line: &[u8], store: &mut [u16], plaques: &mut [u8]) -> Answe
     let mut out = [0u8; 691];
     let p = talk(s, line, store, plaques, &mut out, 0);
     let n = p.at;
-    let written = put(&out[..n]);
+    let written = put(&out[..n]) == n;
     let state = p.state;
     Answered { state, written }
 }

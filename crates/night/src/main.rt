@@ -34,7 +34,7 @@ fn write_turns(file: &[u8], begun: Walk, s: State, store: &mut [u16], plaques: &
     while !w.ended {
         let r = turn(file, w, t, store, plaques, &mut line, 0);
         let n = r.at;
-        if !put(&line[..n]) {
+        if put(&line[..n]) < n {
             return false;
         }
         w = r.walk;
@@ -50,11 +50,11 @@ fn write_listing(file: &[u8]) -> bool {
     let mut line = [0u8; 15];
     if !o.fine {
         let n = put_broken(&mut line, 0);
-        return put(&line[..n]);
+        return put(&line[..n]) == n;
     }
     let begun = o.walk;
     let n = put_commands(&mut line, 0, begun.left);
-    if !put(&line[..n]) {
+    if put(&line[..n]) < n {
         return false;
     }
     write_turns(file, begun, o.state, &mut store, &mut plaques)

@@ -2,8 +2,11 @@
 // terminal that another program left non-blocking answers EAGAIN in place of waiting. None of these loses a byte here.
 use check::same;
 use libc::STDOUT_FILENO;
-ghost use lib.ListN.{length};
+ghost use mathlib.Core.Path.{_≡_};
+ghost use mathlib.Core.Bool.{true};
 ghost use Prim.Native.Nat.{_≤_};
+ghost use lib.ListN.{length};
+ghost use Rattle.streams.specs.Help.{AsksHelp};
 
 // How often a call that moved nothing is made again. (No night lasts as long; the count shows the prover that it ends.)
 const PATIENCE: u64 = u64::MAX;
@@ -24,8 +27,10 @@ fn again(got: isize) -> bool {
     true
 }
 
-// Writes all of the bytes to standard output and answers true, or says on standard error why it cannot and answers false.
-pub fn put(bytes: &[u8]) -> bool {
+// Writes the bytes to standard output, and says on standard error why where it cannot write them all; how many it wrote.
+pub fn put(bytes: &[u8]) -> usize
+    ensures { λ r. ⌜ r ≤ length (now (bytes .entry)) ⌝ }
+{
     let mut at = 0;
     let mut tries = PATIENCE;
     while at < bytes.len() && 0 < tries {
@@ -42,9 +47,8 @@ pub fn put(bytes: &[u8]) -> bool {
     }
     if at < bytes.len() {
         os::fail(b"standard output");
-        return false;
     }
-    true
+    at
 }
 
 // How many bytes were read, and whether any could be.
@@ -72,6 +76,12 @@ pub fn take(fd: i32, bytes: &mut [u8]) -> Got
     Got { n: 0, ok: false }
 }
 
-pub fn is_help(word: &[u8]) -> bool {
-    same(word, b"-h") || same(word, b"--help")
+// Whether a word asks what a program does.
+pub fn is_help(word: &[u8]) -> bool
+    ensures { λ r. ⌜ (r ≡ true → AsksHelp (now (word .entry))) × (AsksHelp (now (word .entry)) → r ≡ true) ⌝ }
+{
+    if same(word, b"-h") {
+        return true;
+    }
+    same(word, b"--help")
 }
