@@ -1,21 +1,22 @@
 -- Closed cases of command packets, read and written: a row for every rule, and for every reading (A and B) that a value tells apart.
 -- Assumes nothing.
 use Prim.Native.Nat.{ℕ}
-use mathlib.Core.Bool.{Bool, true, false, not}
-use mathlib.Core.List.{List, [], _∷_, _++_}
+use mathlib.Core.Bool.{not}
+use mathlib.Core.List.{List, [], _∷_, map}
 use lib.Dec.{eqb}
 use lib.ListN.{replicate}
 use Rattle.units.specs.Count.{every}
 use Rattle.units.specs.Word.{word}
 use Rattle.units.specs.declared.Form.the-variants.{Register, Framed}
 use Rattle.meaning.specs.Bench.{full}
-use Rattle.meaning.specs.Table.{any, unused, rowOf}
+use Rattle.meaning.specs.Table.{any, unused, rowOf, carried}
 use Rattle.meaning.specs.Command.{commandData, delayWrong, rangeWrong, readCommand, writeCommand, commandOutput}
 use Rattle.meaning.specs.Call.{same}
 use Rattle.meaning.specs.Cases.{Case, _says_, hex, bytes, search, reads, goesOn, writes, names}
 use Rattle.meaning.specs.CasesOfPackets.{_from_, _at_from_, cmd, register, framed, asks, commandRefused, accepts}
 use Rattle.meaning.specs.CasesOfPackets.{wrt, writerRefused, wrote}
 use Rattle.meaning.specs.declared.table.Kind.the-variants.{Unknown}
+use Rattle.meaning.specs.declared.table.Limits.{Limits}
 
 -- ---- packets in register form, and what is written
 -- no word but the first three
@@ -38,7 +39,7 @@ fills size = 0x0007 ∷ 0xAA04 ∷ 0x0001 ∷ 0x0001 ∷ 0x0000 ∷ size ∷ 0x4
 
 -- bytes beside those of the table
 abbrev pub strangers : List ℕ
-strangers = bytes "0003090C0E10121A20222A53555F62787A92A6C0C4FF"
+strangers = bytes "0003090C0E1012202253555F62787A92A6C0C4FF"
 
 unfoldable pub commandCases : List Case
 commandCases =
@@ -98,6 +99,9 @@ commandCases =
     ∷ "8: not in the table, at the gateway" says every (λ c. 8 at 2 from cmd Register (bare c 32)) strangers
     ∷ "8: the readers' seven at the gateway" says every (λ c. 8 at 2 from cmd Register (bare c 32)) (bytes "04050607080D54")
     ∷ "8: the gateway's five at a reader" says every (λ c. 8 at 2 from cmd Register (bare c 16)) (bytes "1121606179")
+    ∷ "8: what is no command carries nothing" says eqb (carried (rowOf full 0x09) (asks 0x09 1 0 0 5)) 0
+    ∷ "8: and uses no word" says
+    same (map (λ (l : Limits). l .high) (rowOf full 0x09 .word4 ∷ rowOf full 0x09 .start ∷ rowOf full 0x09 .size ∷ [])) (0 ∷ 0 ∷ 0 ∷ [])
     -- 9: the column "Overall Length"
     ∷ "8 before 9" says 8 at 2 from register "0007 AA09 0001 0001 0000 0001 0000"
     ∷ "A-5: a spare word" says 9 at 1 from register "0007 AA05 0001 0001 0000 0001 0000"
@@ -146,6 +150,7 @@ commandCases =
     ∷ "A-10: any start of 05" says 0 from cmd Register (reads 1 65535 255)
     ∷ "A-10: any start of 06" says 0 from register "0007 AA06 0001 0001 FFFF 0001 4100"
     ∷ "a word has 16 bits" says eqb (any .high) 65535
+    ∷ "a start that is no word" says 10 at 5 from cmd Register (reads 1 65536 1)
     ∷ "delay 60" says 0 from cmd Register (goesOn 1 60 0 1)
     ∷ "delay 61" says 10 at 4 from cmd Register (goesOn 1 61 0 1)
     ∷ "A-7: a high byte of the delay" says 10 at 4 from register "0006 AA0D 0001 0105 0000 0001"

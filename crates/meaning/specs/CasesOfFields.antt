@@ -1,17 +1,15 @@
 -- Closed cases of plaques and field checks: a row for every rule, and for every reading (F) that a value tells apart.
 -- Assumes nothing.
-use Prim.Native.Nat.{ℕ}
-use mathlib.Core.Bool.{Bool, not}
+use mathlib.Core.Bool.{not}
 use mathlib.Core.List.{List, [], _∷_, _++_}
 use lib.Dec.{eqb}
 use lib.ListN.{replicate}
 use Rattle.units.specs.Count.{every}
-use Rattle.units.specs.declared.Form.the-variants.{Register, Framed}
 use Rattle.meaning.specs.Bench.{full}
-use Rattle.meaning.specs.Call.{Call, check, arrive, leave, acknowledge, same, step, run}
-use Rattle.meaning.specs.Cases.{Case, _says_, hex, bytes, march, midnight, search, reads, goesOn}
+use Rattle.meaning.specs.Call.{check, arrive, leave, acknowledge, same, step, run}
+use Rattle.meaning.specs.Cases.{Case, _says_, bytes, march, midnight, search, reads, goesOn}
 use Rattle.meaning.specs.CasesOfCalls.{blank, idA, idB, cmd, sends, four, second, wrapping, holding, pending, memory, front, answers}
-use Rattle.meaning.specs.CasesOfCalls.{ends, endsIn, queues, does, stays, isQueued}
+use Rattle.meaning.specs.CasesOfCalls.{ends, queues, does, stays, isQueued}
 
 unfoldable pub fieldCases : List Case
 fieldCases =
@@ -36,8 +34,7 @@ fieldCases =
     ∷ "14: no plaque to leave" says ends 14 [] (leave 2)
     ∷ "14: nor once more" says ends 14 (four ∷ leave 2 ∷ []) (leave 2)
     ∷ "14: one at another reader" says ends 14 (four ∷ []) (leave 3)
-    ∷ "leaving clears presence" says
-    answers 2 (four ∷ leave 2 ∷ cmd (search 2) ∷ []) ("0007 FFFF 0002 0313 0A0B 2401 0700" ∷ [])
+    ∷ "leaving clears presence" says answers 2 (four ∷ leave 2 ∷ cmd (search 2) ∷ []) ("0007 FFFF 0002 0313 0A0B 2401 0700" ∷ [])
     ∷ "F-9: leaving writes nothing" says front (four ∷ leave 2 ∷ []) "112233440707"
     ∷ "7 of a leaving" says every (λ n. ends 7 [] (leave n)) (0 ∷ 17 ∷ 32 ∷ [])
     -- field checks
@@ -74,8 +71,7 @@ fieldCases =
     ∷ "F-5: another ID is no repeat" says queues (second ++ (arrive 2 idB (bytes "0102") ∷ [])) (check 2 march 400)
     ∷ "F-5: only the last report is kept" says
     queues (second ++ (arrive 2 idB (bytes "0102") ∷ check 2 march 400 ∷ four ∷ [])) (check 2 march 401)
-    ∷ "F-5: the ID to its last byte" says
-    queues (second ++ (arrive 2 (bytes "E0040100002E16AE") (bytes "0102") ∷ [])) (check 2 march 400)
+    ∷ "F-5: the ID to its last byte" says queues (second ++ (arrive 2 (bytes "E0040100002E16AE") (bytes "0102") ∷ [])) (check 2 march 400)
     ∷ "F-6: leaving keeps the report" says stays (second ++ (leave 2 ∷ four ∷ [])) (check 2 march 400)
     ∷ "F-6: and the reading" says queues (second ++ (leave 2 ∷ four ∷ [])) (check 2 march 500)
     ∷ "F-6: so does arrival, with other bytes" says stays (second ++ (arrive 2 idA (bytes "0909") ∷ [])) (check 2 march 400)

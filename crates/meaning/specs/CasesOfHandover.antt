@@ -4,7 +4,7 @@ use Prim.Native.Nat.{ℕ}
 use mathlib.Core.Bool.{Bool, not, _&&_, cond}
 use mathlib.Core.List.{List, [], _∷_, _++_, map}
 use lib.Dec.{eqb}
-use lib.ListN.{take, replicate}
+use lib.ListN.{take}
 use Rattle.units.specs.Count.{every}
 use Rattle.units.specs.Word.{word}
 use Rattle.units.specs.declared.Form.the-variants.{Register, Framed}
@@ -14,12 +14,16 @@ use Rattle.meaning.specs.Room.{held, charge, charges, fits}
 use Rattle.meaning.specs.Call.{Call, check, collect, acknowledge, same, step, run}
 use Rattle.meaning.specs.Cases.{Case, _says_, hex, bytes, march, search, reads, goesOn}
 use Rattle.meaning.specs.CasesOfCalls.{blank, cmd, sends, four, getsName, abc, resets, clears, busy, second, holding, crowd, turning}
-use Rattle.meaning.specs.CasesOfCalls.{after, pending, answers, alikes, counts, ends, endsIn, isQueued, isDone, hands, gets, small}
+use Rattle.meaning.specs.CasesOfCalls.{after, pending, answers, alikes, counts, ends, endsIn, isQueued, hands, gets, small}
 
 -- ---- nodes
 -- readers, the first and the last, and the gateway
 abbrev pub some : List ℕ
 some = 1 ∷ 3 ∷ 16 ∷ 32 ∷ []
+
+-- all but 3, 4 and 5
+abbrev pub fourteen : List ℕ
+fourteen = 1 ∷ 2 ∷ 6 ∷ 7 ∷ 8 ∷ 9 ∷ 10 ∷ 11 ∷ 12 ∷ 13 ∷ 14 ∷ 15 ∷ 16 ∷ 32 ∷ []
 
 -- a command for node n
 abbrev pub ask : ℕ → Call
@@ -128,10 +132,8 @@ handoverCases =
     ∷ "E-13: 61 at the gateway, waiting" says has (node 32 (cmd resets)) 1 8 (hex "0006 AA61 0020 0313 0A0B 2400" ∷ [])
     ∷ "E-13: 61 at the gateway, list empty" says
     has (nodeIn (rested 32 blank) 32 (cmd resets)) 1 7 (hex "0006 AA61 0020 0313 0A0B 2400" ∷ [])
-    ∷ "E-13: once, not once an answer" says
-    same (numbers (busy ++ (cmd clears ∷ []))) (2 ∷ 2 ∷ 2 ∷ 1 ∷ [])
-    ∷ "E-13: 79 again finds its own answer alone" says
-    same (numbers (busy ++ (cmd clears ∷ cmd clears ∷ []))) (2 ∷ 2 ∷ 3 ∷ 1 ∷ [])
+    ∷ "E-13: once, not once an answer" says same (numbers (busy ++ (cmd clears ∷ []))) (2 ∷ 2 ∷ 2 ∷ 1 ∷ [])
+    ∷ "E-13: 79 again finds its own answer alone" says same (numbers (busy ++ (cmd clears ∷ cmd clears ∷ []))) (2 ∷ 2 ∷ 3 ∷ 1 ∷ [])
     ∷ "E-13: 65,535 is followed by 1" says every (λ n. eqb (nodeIn (turning n 65535) n (cmd clears) .handover) 1) some
     ∷ "a late acknowledgement after 79" says every (λ n. ends 15 (ask n ∷ cmd clears ∷ ask n ∷ []) (acknowledge n 1)) some
     -- "A node's held words are the Overall Lengths of its unacknowledged, uncleared answers added up."
@@ -149,8 +151,8 @@ handoverCases =
     ∷ "and 7 have not" says every (λ n. not (takes n 7 (holding n 798 blank))) some
     ∷ "with 3 and 4 at 804, node 5 may reach 612" says takes 5 12 crowd
     ∷ "and not 613" says not (takes 5 13 crowd)
-    ∷ "the other fourteen still have 134 each" says every (λ n. takes n 134 (holding 5 612 crowd)) (1 ∷ 2 ∷ 6 ∷ 16 ∷ 32 ∷ [])
-    ∷ "and no more" says every (λ n. not (takes n 135 (holding 5 612 crowd))) (1 ∷ 2 ∷ 6 ∷ 16 ∷ 32 ∷ [])
+    ∷ "the other fourteen still have 134 each" says every (λ n. takes n 134 (holding 5 612 crowd)) fourteen
+    ∷ "and no more" says every (λ n. not (takes n 135 (holding 5 612 crowd))) fourteen
     ∷ "every node is charged" says every (λ n. takes 5 12 (holding n 804 (holding 4 804 (holding 5 600 blank)))) some
     ∷ "in full" says every (λ n. not (takes 5 13 (holding n 804 (holding 4 804 (holding 5 600 blank))))) some
     ∷ "the gateway may reach 612 too" says takes 32 12 (holding 3 804 (holding 4 804 (holding 32 600 blank)))
@@ -165,8 +167,7 @@ handoverCases =
     ∷ "E-19: 12 before 13" says endsIn 12 (holding 2 804 (run full blank (four ∷ []))) (cmd (reads 2 3 2))
     ∷ "E-19: 13 within the plaque" says endsIn 13 (holding 2 804 (run full blank (four ∷ []))) (cmd (reads 2 2 2))
     ∷ "13 of a report" says endsIn 13 (holding 2 798 (run full blank second)) (check 2 march 5000)
-    ∷ "12 of a report before 13" says
-    endsIn 12 (holding 2 804 (run full blank (four ∷ cmd (goesOn 2 1 3 2) ∷ []))) (check 2 march 0)
+    ∷ "12 of a report before 13" says endsIn 12 (holding 2 804 (run full blank (four ∷ cmd (goesOn 2 1 3 2) ∷ []))) (check 2 march 0)
     ∷ "13 changes no byte" says
     same
     (take 4 ((step full (holding 2 804 (run full blank (four ∷ []))) (sends "0007 AA04 0002 07D0 0000 0004 4100")) .next .reader 2 .region))

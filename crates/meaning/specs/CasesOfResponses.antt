@@ -1,9 +1,7 @@
 -- Closed cases of response packets, read and written: a row for every rule, and for every reading (C and D) that a value tells apart.
 -- Assumes nothing.
-use Prim.Native.Nat.{ℕ}
-use mathlib.Core.Bool.{Bool, true, false, not}
+use mathlib.Core.Bool.{true, false, not}
 use mathlib.Core.List.{List, [], _∷_, _++_}
-use lib.Dec.{eqb}
 use lib.ListN.{replicate}
 use Rattle.units.specs.Count.{every}
 use Rattle.units.specs.declared.Form.the-variants.{Register, Framed}
@@ -40,8 +38,7 @@ responseCases =
     ∷ "node 1 has no word 00" says 0 at 0 from framedAnswer "0006 AA08 0001 0313 0A0B 2400"
     ∷ "node 1 with word 00" says 5 at 3 from framedAnswer "FF01 0006 AA08 0001 0313 0A0B 2400"
     ∷ "every other node has it" says
-    every (λ ws. 0 from rsp Framed ws)
-    (hex "FF10 0006 AA08 0010 0313 0A0B 2400" ∷ hex "FF20 0006 AA11 0020 0313 0A0B 2400" ∷ [])
+    every (λ ws. 0 from rsp Framed ws) (hex "FF10 0006 AA08 0010 0313 0A0B 2400" ∷ hex "FF20 0006 AA11 0020 0313 0A0B 2400" ∷ [])
     ∷ "node 2 without word 00" says 5 at 3 from framedAnswer "0006 AA08 0002 0313 0A0B 2400"
     ∷ "node 32 without word 00" says 5 at 3 from framedAnswer "0006 AA11 0020 0313 0A0B 2400"
     ∷ "C-2: absent for a node that is none" says 5 at 3 from framedAnswer "0006 AA08 0063 0313 0A0B 2400"
@@ -54,8 +51,7 @@ responseCases =
     ∷ "7: framed" says 7 at 3 from framedAnswer "FF11 0006 AA08 0011 0313 0A0B 2400"
     ∷ "7: nodes 1 to 16 and 32" says
     every (λ n. 0 from rsp Register (0x0006 ∷ 0xAA08 ∷ n ∷ hex "0313 0A0B 2400")) (1 ∷ 2 ∷ 15 ∷ 16 ∷ 32 ∷ [])
-    ∷ "7: no other" says
-    every (λ n. 7 at 3 from rsp Register (0x0006 ∷ 0xAA08 ∷ n ∷ hex "0313 0A0B 2400")) (0 ∷ 17 ∷ 31 ∷ 33 ∷ 255 ∷ [])
+    ∷ "7: no other" says every (λ n. 7 at 3 from rsp Register (0x0006 ∷ 0xAA08 ∷ n ∷ hex "0313 0A0B 2400")) (0 ∷ 17 ∷ 31 ∷ 33 ∷ 255 ∷ [])
     ∷ "7 before 9" says 7 at 3 from registerAnswer "0007 AA08 0011 0313 0A0B 2400 0000"
     -- 9, 3, 10, 11
     ∷ "9: a word too many" says 9 at 1 from registerAnswer "0007 AA08 0002 0313 0A0B 2400 0000"
