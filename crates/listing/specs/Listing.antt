@@ -11,7 +11,8 @@ use Rattle.meaning.specs.Bench.{Bench, full, isReader}
 use Rattle.meaning.specs.Gateway.{Gateway, fresh}
 use Rattle.meaning.specs.Call.{command, arrive, collect, acknowledge, named, done, quiet, handed, Said, refused, answered, queued, step}
 use Rattle.text.specs.Text.{wordsLine}
-use Rattle.listing.specs.Records.{countWhole, countSaid, plaqueWhole, plaqueNode, plaqueId, plaqueBytes, plaqueSize, commandWhole, commandStamp, commandWords, commandSize}
+use Rattle.listing.specs.Records.{countWhole, countSaid, plaqueWhole, plaqueNode, plaqueId, plaqueBytes, plaqueSize}
+use Rattle.listing.specs.Records.{commandWhole, commandStamp, commandWords, commandSize}
 use Rattle.listing.specs.Lines.{commandsLine, refusedLine, brokenLine, flat}
 
 -- ---- one command: "each command's answer is collected in register form and acknowledged"
