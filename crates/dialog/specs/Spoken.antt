@@ -109,7 +109,8 @@ callBy w fs =
     cond (same w (ascii "command")) (commandSaid fs)
     (cond (same w (ascii "check")) (checkSaid fs)
     (cond (same w (ascii "arrive")) (arriveSaid fs)
-    (cond (same w (ascii "leave")) (leaveSaid fs) (cond (same w (ascii "collect")) (collectSaid fs) (cond (same w (ascii "acknowledge")) (acknowledgeSaid fs) unreadable)))))
+    (cond (same w (ascii "leave")) (leaveSaid fs)
+    (cond (same w (ascii "collect")) (collectSaid fs) (cond (same w (ascii "acknowledge")) (acknowledgeSaid fs) unreadable)))))
 
 -- "First of all its length is looked at: a line of more than 4,400 bytes before its line feed is unreadable, whatever it starts with ..
 -- Then an empty line, and one whose first byte is `#`, are passed over .. Any other line that is no call of the table, to the byte .., is
