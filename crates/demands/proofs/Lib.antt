@@ -1,3 +1,4 @@
+pub mod CasesHold
 pub mod Lowest
 pub mod Room
 pub mod Aim

@@ -1,3 +1,4 @@
+pub mod CasesOfDemands
 pub mod Sound
 pub mod Order
 pub mod Demand
