@@ -2,14 +2,16 @@
 -- A test of the value stands for each type: a column's value that passes it is the arm's.
 -- Assumes nothing.
 use Prim.Native.Nat.{ℕ, _+_, _≤_, _<_}
-use mathlib.Core.Path.{_≡_, refl, ap, _∙_}
-use mathlib.Core.Bool.{Bool, true, false, _&&_, _||_}
-use mathlib.Core.List.{List}
+use mathlib.Core.Path.{_≡_, refl, ap, subst, _∙_}
+use mathlib.Core.Bool.{Bool, true, false, not, _&&_, _||_}
+use mathlib.Core.List.{List, [], _∷_}
+use native.Mathlib.Omega.{arith}
 use lib.Dec.{T, eqb, eqb→eq}
+use types.Run.{OneOf}
 use mir.Facts.{and-yes}
-use Rattle.units.proofs.Arms.{Rest, anyOf, from, rest}
-use Rattle.meaning.specs.Bench.{full}
-use Rattle.meaning.specs.Table.{rowOf, _to_}
+use Rattle.units.proofs.Arms.{Rest, anyOf, from, keys, rest, each}
+use Rattle.meaning.specs.Bench.{full, hub}
+use Rattle.meaning.specs.Table.{table, lookup, rowOf, suits, _to_}
 use Rattle.meaning.specs.declared.table.Kind.{Kind}
 use Rattle.meaning.specs.declared.table.Kind.the-variants.{Plaque, Continuous, ResetReader, Gateway, Unknown}
 use Rattle.meaning.specs.declared.table.Load.{Load}
@@ -67,3 +69,23 @@ is-unknown Unknown t = refl
 pub unknown-arm : (column : Row → Kind) (kss : List (List ℕ)) (lo n m : ℕ) → Rest kss m (Unit {0}) → lo ≤ m → m < lo + n
     → T (from (λ (k : ℕ). anyOf k kss || isUnknown (column (rowOf full k))) lo n) → Unknown ≡ column (rowOf full m)
 unknown-arm = arm isUnknown Unknown is-unknown
+
+-- ---- the commands for node 32
+abbrev Gates : ℕ → Type 0
+Gates m = suits (rowOf full m .kind) hub ≡ true
+
+pub gates-keys : (m : ℕ) → OneOf (17 ∷ 33 ∷ 121 ∷ []) m → Gates m
+unfolding table lookup rowOf suits
+gates-keys m e = keys Gates (17 ∷ 33 ∷ 121 ∷ []) m e (refl, (refl, (refl, tt)))
+
+pub gates-range : (m : ℕ) → 96 ≤ m → m < 98 → Gates m
+unfolding table lookup rowOf suits
+gates-range m h k = each Gates 96 2 m h k (refl, (refl, tt))
+
+-- none of the others: 79
+pub gates-last : (m : ℕ) → Rest ((17 ∷ []) ∷ (33 ∷ []) ∷ (96 ∷ []) ∷ (97 ∷ []) ∷ []) m (Unit {0}) → m < 256 → Gates m → 121 ≡ m
+unfolding table lookup rowOf suits
+gates-last m r k e =
+    let g : T (not (suits (rowOf full m .kind) hub) || eqb 121 m) =
+    rest ((17 ∷ []) ∷ (33 ∷ []) ∷ (96 ∷ []) ∷ (97 ∷ []) ∷ []) (λ (x : ℕ). not (suits (rowOf full x .kind) hub) || eqb 121 x) 0 256 m r (omega arith) k tt in
+    eqb→eq 121 m (subst (λ (t : Bool). T (not t || eqb 121 m)) e g)

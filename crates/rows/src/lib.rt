@@ -8,8 +8,11 @@ use meaning::table::OnPlaque;
 use meaning::table::REGION;
 use meaning::table::Row;
 use units::Bytes;
+ghost use Prim.Native.Nat.{_≤_};
 ghost use mathlib.Core.Path.{_≡_};
-ghost use Rattle.meaning.specs.Bench.{full};
+ghost use mathlib.Core.Bool.{true};
+ghost use Rattle.meaning.specs.Bench.{full, hub};
+ghost use Rattle.meaning.specs.declared.table.Kind.the-variants.{Plaque, Gateway};
 ghost use Rattle.meaning.specs.Table.{_to_, rowOf, suits, carries, carried};
 
 fn limits(low: u16, high: u16) -> Limits
@@ -18,32 +21,55 @@ fn limits(low: u16, high: u16) -> Limits
     Limits { low, high }
 }
 
+// The effect.
 fn kind_of(command: u8) -> Kind
     ensures { λ r. ⌜ r ≡ rowOf full command .kind ⌝ }
 {
     match command {
-        0x04 => Kind::Plaque(OnPlaque::Fill),
-        0x05 => Kind::Plaque(OnPlaque::Read),
-        0x06 => Kind::Plaque(OnPlaque::Write),
-        0x07 => Kind::Plaque(OnPlaque::ReadId),
-        0x08 => Kind::Plaque(OnPlaque::Search),
+        0x04..=0x08 => Kind::Plaque(on_plaque(command)),
         0x0D => Kind::Continuous,
         0x54 => Kind::ResetReader,
-        0x11 => Kind::Gateway(OfGateway::GetName),
-        0x21 => Kind::Gateway(OfGateway::SetName),
-        0x60 => Kind::Gateway(OfGateway::Initialise),
-        0x61 => Kind::Gateway(OfGateway::ResetGateway),
-        0x79 => Kind::Gateway(OfGateway::Clear),
+        0x11 | 0x21 | 0x60..=0x61 | 0x79 => Kind::Gateway(of_gateway(command)),
         _ => Kind::Unknown,
     }
 }
 
+// 04 to 08, which want a plaque in the field.
+fn on_plaque(command: u8) -> OnPlaque
+    requires { ⌜ (0x04 ≤ command) × (command ≤ 0x08) ⌝ }
+    ensures { λ r. ⌜ Plaque r ≡ rowOf full command .kind ⌝ }
+{
+    match command {
+        0x04 => OnPlaque::Fill,
+        0x05 => OnPlaque::Read,
+        0x06 => OnPlaque::Write,
+        0x07 => OnPlaque::ReadId,
+        _ => OnPlaque::Search,
+    }
+}
+
+// The commands for node 32.
+fn of_gateway(command: u8) -> OfGateway
+    requires { ⌜ suits (rowOf full command .kind) hub ≡ true ⌝ }
+    ensures { λ r. ⌜ Gateway r ≡ rowOf full command .kind ⌝ }
+{
+    match command {
+        0x11 => OfGateway::GetName,
+        0x21 => OfGateway::SetName,
+        0x60 => OfGateway::Initialise,
+        0x61 => OfGateway::ResetGateway,
+        _ => OfGateway::Clear,
+    }
+}
+
+// What Overall Length counts besides the first six words: nothing, a fill's one byte, or the bytes that word 06 says.
 fn load_of(command: u8) -> Load
     ensures { λ r. ⌜ r ≡ rowOf full command .load ⌝ }
 {
     match command {
         0x04 => Load::One,
         0x06 | 0x21 => Load::Size,
+        0x05 | 0x07..=0x08 | 0x0D | 0x11 | 0x54 | 0x60..=0x61 | 0x79 => Load::Nothing,
         _ => Load::Nothing,
     }
 }

@@ -1,10 +1,19 @@
+use mathlib.Core.Path.{refl}
 use native.Mathlib.Omega.{arith}
 use mathlib.Core.List.{[], _∷_}
+use mathlib.Core.Logic.{⊎-elim}
 use Rattle.meaning.specs.declared.table.Row.{Row}
 use Rattle.meaning.specs.Table.{table, lookup, rowOf}
-use Rattle.rows.proofs.Rows.{unknown-arm}
+use Rattle.rows.proofs.Rows.{unknown-arm, gates-keys, gates-range}
+use borrow.Author.Needs.{needs}
 use Rattle.rows.proofs.kind_of.Statement.{statement}
 use Rattle.rows.proofs.kind_of.Tie as tie
+
+on-plaque-requires : tie.Need-on-plaque-requires
+on-plaque-requires c κs = search needs
+
+of-gateway-requires : tie.Need-of-gateway-requires
+of-gateway-requires c κs = ⊎-elim (λ w. gates-keys _ (w .keys3)) (λ w. gates-range _ (omega arith) (omega arith)) (c .match .came)
 
 returns : tie.Need-returns
 unfolding table lookup rowOf
@@ -15,63 +24,33 @@ unfolding table lookup rowOf
 returns-2 c = rw (c .match .keys2)
 
 returns-3 : tie.Need-returns-3
-unfolding table lookup rowOf
-returns-3 c = rw (c .match .keys3)
+returns-3 c = c .on-plaque .ensures
 
 returns-4 : tie.Need-returns-4
 unfolding table lookup rowOf
-returns-4 c = rw (c .match .keys4)
+returns-4 c = unknown-arm (λ (r : Row). r .kind) ((13 ∷ []) ∷ (84 ∷ []) ∷ (17 ∷ 33 ∷ 121 ∷ []) ∷ []) 0 4 _ (c .before .match .rest) (omega arith) (omega arith) tt
 
 returns-5 : tie.Need-returns-5
 unfolding table lookup rowOf
-returns-5 c = rw (c .match .keys5)
+returns-5 c = unknown-arm (λ (r : Row). r .kind) ((13 ∷ []) ∷ (84 ∷ []) ∷ (17 ∷ 33 ∷ 121 ∷ []) ∷ []) 9 87 _ (c .before .before .before .match .rest) (omega arith) (omega arith) tt
 
 returns-6 : tie.Need-returns-6
 unfolding table lookup rowOf
-returns-6 c = rw (c .match .keys6)
+returns-6 c = unknown-arm (λ (r : Row). r .kind) ((13 ∷ []) ∷ (84 ∷ []) ∷ (17 ∷ 33 ∷ 121 ∷ []) ∷ []) 98 158 _ (c .before .before .before .before .match .rest) (omega arith) (omega arith) tt
 
 returns-7 : tie.Need-returns-7
-unfolding table lookup rowOf
-returns-7 c = rw (c .match .keys7)
-
-returns-8 : tie.Need-returns-8
-unfolding table lookup rowOf
-returns-8 c = rw (c .match .keys8)
-
-returns-9 : tie.Need-returns-9
-unfolding table lookup rowOf
-returns-9 c = rw (c .match .keys9)
-
-returns-10 : tie.Need-returns-10
-unfolding table lookup rowOf
-returns-10 c = rw (c .match .keys10)
-
-returns-11 : tie.Need-returns-11
-unfolding table lookup rowOf
-returns-11 c = rw (c .match .keys11)
-
-returns-12 : tie.Need-returns-12
-unfolding table lookup rowOf
-returns-12 c = rw (c .match .keys12)
-
-returns-13 : tie.Need-returns-13
-unfolding table lookup rowOf
-returns-13 c = unknown-arm (λ (r : Row). r .kind) ((4 ∷ []) ∷ (5 ∷ []) ∷ (6 ∷ []) ∷ (7 ∷ []) ∷ (8 ∷ []) ∷ (13 ∷ []) ∷ (84 ∷ []) ∷ (17 ∷ []) ∷ (33 ∷ []) ∷ (96 ∷ []) ∷ (97 ∷ []) ∷ (121 ∷ []) ∷ []) 0 256 _ (c .match .rest) (omega arith) (omega arith) tt
+returns-7 c = c .of-gateway .ensures
 
 pub kind-of-spec : {M : Type 1} → statement M
 kind-of-spec =
     tie.close
     (tie.spec
+    on-plaque-requires
+    of-gateway-requires
     returns
     returns-2
     returns-3
     returns-4
     returns-5
     returns-6
-    returns-7
-    returns-8
-    returns-9
-    returns-10
-    returns-11
-    returns-12
-    returns-13)
+    returns-7)
