@@ -9,7 +9,7 @@ use crate::say::say_two;
 use crate::scan::part;
 use meaning::packet::Response;
 use meaning::packet::ResponseRead;
-use response::read_response;
+use response::judge_response;
 use response::response_data;
 use units::Form;
 use units::packing::unpack;
@@ -104,7 +104,7 @@ fn say_accepted(
 pub fn say_of_response(out: &mut [u8], at: usize, words: &[u16], form: Form) -> usize
     ensures { λ r. ⌜ GoesOn (now (out .entry)) at (now (out .exit)) r ⌝ }
 {
-    match read_response(words, form) {
+    match judge_response(words, form) {
         ResponseRead::Refused(n) => {
             let a = say_number(out, at, b"refused ", n as usize);
             say(out, a, b"\n")

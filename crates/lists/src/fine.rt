@@ -2,7 +2,7 @@
 use crate::room::charges;
 use crate::room::helds;
 use meaning::packet::ResponseRead;
-use response::read_response;
+use response::judge_response;
 use state::node::Node;
 use state::node::Pending;
 use units::Form;
@@ -46,7 +46,7 @@ fn answer_ok(store: &[u16], i: usize, place: usize) -> bool
         return false;
     }
     let end = place + len;
-    match read_response(&store[place..end], Form::Register) {
+    match judge_response(&store[place..end], Form::Register) {
         ResponseRead::Accepted(r, _) => r.node == node_at(i),
         ResponseRead::Refused(_) => false,
     }

@@ -3,8 +3,8 @@ use borrow.Author.Needs.{needs}
 use Rattle.guide.proofs.responses.say_of_response.Statement.{statement}
 use Rattle.guide.proofs.responses.say_of_response.Tie as tie
 
-read-response-requires : tie.Need-read-response-requires
-read-response-requires c κs = search needs
+judge-response-requires : tie.Need-judge-response-requires
+judge-response-requires c κs = search needs
 
 enum-known-n : tie.Need-enum-known-n
 enum-known-n c = search needs
@@ -61,7 +61,7 @@ pub say-of-response-spec : {M : Type 1} → statement M
 say-of-response-spec =
     tie.close
     (tie.spec
-    read-response-requires
+    judge-response-requires
     enum-known-n
     slice-aggregate-say-number
     cast-say-number

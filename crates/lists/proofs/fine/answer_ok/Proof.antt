@@ -33,20 +33,20 @@ returns-2 c =
 add-end : tie.Need-add-end
 add-end c = search needs
 
-mul-read-response : tie.Need-mul-read-response
-mul-read-response c = search needs
+mul-judge-response : tie.Need-mul-judge-response
+mul-judge-response c = search needs
 
-sub-read-response : tie.Need-sub-read-response
-sub-read-response c = search needs
+sub-judge-response : tie.Need-sub-judge-response
+sub-judge-response c = search needs
 
-part-read-response-start : tie.Need-part-read-response-start
-part-read-response-start c = search needs
+part-judge-response-start : tie.Need-part-judge-response-start
+part-judge-response-start c = search needs
 
-part-read-response-end : tie.Need-part-read-response-end
-part-read-response-end c = search needs
+part-judge-response-end : tie.Need-part-judge-response-end
+part-judge-response-end c = search needs
 
-read-response-requires : tie.Need-read-response-requires
-read-response-requires c κs = search needs
+judge-response-requires : tie.Need-judge-response-requires
+judge-response-requires c κs = search needs
 
 enum-known-r : tie.Need-enum-known-r
 enum-known-r c = search needs
@@ -61,14 +61,14 @@ returns-3 : tie.Need-returns-3
 returns-3 c =
     let a = c .before .before .before .before .before .before .before .before .before .before .before .args in
     let g = c .before .before .before .r .given in
-    let e = sym (c .before .before .before .before .before .read-response .ensures) ∙ g .1 in
+    let e = sym (c .before .before .before .before .before .judge-response .ensures) ∙ g .1 in
     rw (c .before .node-at .ensures) (sym (ok-read full (a .store .now) (a .i) (a .place) (omega arith) (g .0 .0) (g .0 .1 .0) e))
 
 returns-4 : tie.Need-returns-4
 returns-4 c =
     let a = c .before .before .before .before .before .before .before .before .args in
     let g = c .enum-told .given in
-    let e = sym (c .before .before .read-response .ensures) ∙ g .1 in
+    let e = sym (c .before .before .judge-response .ensures) ∙ g .1 in
     sym (ok-refused full (a .store .now) (a .i) (a .place) (omega arith) (g .0 .0) e)
 
 pub answer-ok-spec : {M : Type 1} → statement M
@@ -82,11 +82,11 @@ answer-ok-spec =
     sub-if2
     returns-2
     add-end
-    mul-read-response
-    sub-read-response
-    part-read-response-start
-    part-read-response-end
-    read-response-requires
+    mul-judge-response
+    sub-judge-response
+    part-judge-response-start
+    part-judge-response-end
+    judge-response-requires
     enum-known-r
     node-at-requires
     enum-told
