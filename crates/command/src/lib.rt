@@ -3,7 +3,6 @@ use meaning::packet::Command;
 use meaning::packet::CommandRead;
 use meaning::table::Kind;
 use meaning::table::Limits;
-use meaning::table::REGION;
 use meaning::table::Row;
 use parts::count_wrong;
 use parts::data_words;
@@ -14,6 +13,7 @@ use parts::word_no;
 use rows::carried;
 use rows::row_of;
 use rows::suits;
+use units::Bytes;
 use units::Form;
 use units::packing::lsb;
 use units::packing::msb;
@@ -130,7 +130,7 @@ fn delay_wrong(kind: Kind, m: Command) -> bool
 fn past_region(m: Command) -> bool
     ensures { λ r. ⌜ r ≡ rangeWrong (full .region) Continuous m ⌝ }
 {
-    if (REGION as u32) < m.start as u32 + m.size as u32 {
+    if Bytes::REGION.0 < m.start as usize + m.size as usize {
         return true;
     }
     if m.size != 0 {

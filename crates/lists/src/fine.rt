@@ -85,7 +85,7 @@ fn fine_lists(nodes: [Node; 17], store: &[u16]) -> bool
     requires { ⌜ length (now store) ≡ full .store ⌝ }
     ensures { λ r. ⌜ r ≡ fineLists full (now (store .entry)) nodes ⌝ }
 {
-    let mut used = [false; 4096];
+    let mut used = [false; Words::STORE.0];
     let mut fine = true;
     let mut i: usize = 0;
     'nodes: while i < 17 {
@@ -153,12 +153,12 @@ fn bounds_met(hs: [Words; 17]) -> bool
     let mut i: usize = 0;
     while i < 17 {
         let h = hs[i];
-        if Words::LIMIT < h.0 {
+        if Words::LIMIT.0 < h.0 {
             return false;
         }
         i += 1;
     }
-    charges(hs).0 <= Words::STORE
+    charges(hs).0 <= Words::STORE.0
 }
 
 // Whether the lists that have no answer have no place.

@@ -58,9 +58,9 @@ pub fn has_room(nodes: [Node; 17], i: usize, new: Words) -> bool
 {
     let mut hs = helds(nodes);
     let h = hs[i];
-    if Words::LIMIT - h.0 < new.0 {
+    if Words::LIMIT.0 - h.0 < new.0 {
         return false;
     }
     hs[i] = Words(h.0 + new.0);
-    charges(hs).0 <= Words::STORE
+    charges(hs).0 <= Words::STORE.0
 }

@@ -42,7 +42,7 @@ fn shown_count(form: Form, node: u8, amount: Bytes) -> Words
 fn amount_wrong(error: bool, amount: Bytes) -> bool
     ensures { λ r. ⌜ r ≡ amountWrong error (amount .0) ⌝ }
 {
-    if 255 < amount.0 {
+    if Bytes::DATA.0 < amount.0 {
         return true;
     }
     if error { amount.0 != 1 } else { false }

@@ -5,12 +5,12 @@ use meaning::table::Limits;
 use meaning::table::Load;
 use meaning::table::OfGateway;
 use meaning::table::OnPlaque;
-use meaning::table::REGION;
 use meaning::table::Row;
 use units::Bytes;
 ghost use Prim.Native.Nat.{_≤_};
 ghost use mathlib.Core.Path.{_≡_};
 ghost use mathlib.Core.Bool.{true};
+ghost use Rattle.units.specs.Count.{InWord};
 ghost use Rattle.meaning.specs.Bench.{full, hub};
 ghost use Rattle.meaning.specs.declared.table.Kind.the-variants.{Plaque, Gateway};
 ghost use Rattle.meaning.specs.Table.{_to_, rowOf, suits, carries, carried};
@@ -19,6 +19,14 @@ fn limits(low: u16, high: u16) -> Limits
     ensures { λ r. ⌜ r ≡ low to high ⌝ }
 {
     Limits { low, high }
+}
+
+// The limits of a count of bytes.
+fn up_to(low: u16, most: Bytes) -> Limits
+    requires { ⌜ InWord (most .0) ⌝ }
+    ensures { λ r. ⌜ r ≡ low to most .0 ⌝ }
+{
+    limits(low, most.0 as u16)
 }
 
 // The effect.
@@ -98,10 +106,10 @@ fn size_of(command: u8) -> Limits
     ensures { λ r. ⌜ r ≡ rowOf full command .size ⌝ }
 {
     match command {
-        0x04 => limits(1, REGION),
-        0x05..=0x06 => limits(1, 255),
-        0x0D => limits(0, 255),
-        0x21 => limits(1, 64),
+        0x04 => up_to(1, Bytes::REGION),
+        0x05..=0x06 => up_to(1, Bytes::DATA),
+        0x0D => up_to(0, Bytes::DATA),
+        0x21 => up_to(1, Bytes::NAME),
         _ => limits(0, 0),
     }
 }

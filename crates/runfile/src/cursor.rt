@@ -2,7 +2,6 @@
 use crate::CommandRecord;
 use crate::CountRecord;
 use crate::PlaqueRecord;
-use meaning::table::REGION;
 use units::Bytes;
 use units::Words;
 use units::packing::word;
@@ -41,17 +40,14 @@ fn plaque_of(rest: &[u8]) -> PlaqueRecord
     if node < 1 || 16 < node {
         return PlaqueRecord::Broken;
     }
-    let length = two_at(rest, 1);
-    if length < 1 || REGION < length {
+    let length = Bytes(two_at(rest, 1) as usize);
+    if length.0 < 1 || Bytes::REGION.0 < length.0 {
         return PlaqueRecord::Broken;
     }
-    if rest.len() < 11 + length as usize {
+    if rest.len() < 11 + length.0 {
         return PlaqueRecord::Broken;
     }
-    PlaqueRecord::Plaque {
-        node,
-        length: Bytes(length as usize),
-    }
+    PlaqueRecord::Plaque { node, length }
 }
 
 fn command_of(rest: &[u8]) -> CommandRecord
@@ -60,14 +56,14 @@ fn command_of(rest: &[u8]) -> CommandRecord
     if rest.len() < 7 {
         return CommandRecord::Broken;
     }
-    let words = two_at(rest, 5);
-    if words < 6 || 134 < words {
+    let words = Words(two_at(rest, 5) as usize);
+    if words.0 < Words::FIXED.0 || Words::PACKET.0 < words.0 {
         return CommandRecord::Broken;
     }
-    if rest.len() < 5 + 2 * words as usize {
+    if rest.len() < 5 + words.bytes().0 {
         return CommandRecord::Broken;
     }
-    CommandRecord::Command(Words(words as usize))
+    CommandRecord::Command(words)
 }
 
 pub fn count_at(bytes: &[u8], at: usize) -> CountRecord

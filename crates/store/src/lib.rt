@@ -150,7 +150,7 @@ fn append(nodes: [Node; 17], i: usize, answer: &[u16], store: &mut [u16]) -> [No
     let n = nodes[i];
     let list = n.list;
     let to = next_place(list, i);
-    if to + answer.len() <= Words::STORE && is_free(nodes, to, Words(answer.len())) {
+    if to + answer.len() <= Words::STORE.0 && is_free(nodes, to, Words(answer.len())) {
         return put(nodes, i, answer, store, to);
     }
     repack(nodes, i, answer, store)

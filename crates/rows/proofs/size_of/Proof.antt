@@ -9,41 +9,41 @@ use borrow.Author.Needs.{needs}
 use Rattle.rows.proofs.size_of.Statement.{statement}
 use Rattle.rows.proofs.size_of.Tie as tie
 
+up-to-requires : tie.Need-up-to-requires
+up-to-requires c κs = search needs
+
+up-to-requires-2 : tie.Need-up-to-requires-2
+up-to-requires-2 c κs = search needs
+
+up-to-requires-3 : tie.Need-up-to-requires-3
+up-to-requires-3 c κs = search needs
+
+up-to-requires-4 : tie.Need-up-to-requires-4
+up-to-requires-4 c κs = search needs
+
 limits-requires : tie.Need-limits-requires
 limits-requires c κs = search needs
 
-limits-requires-2 : tie.Need-limits-requires-2
-limits-requires-2 c κs = search needs
-
-limits-requires-3 : tie.Need-limits-requires-3
-limits-requires-3 c κs = search needs
-
-limits-requires-4 : tie.Need-limits-requires-4
-limits-requires-4 c κs = search needs
-
-limits-requires-5 : tie.Need-limits-requires-5
-limits-requires-5 c κs = search needs
-
 returns : tie.Need-returns
 unfolding table lookup rowOf
-returns c = c .limits .ensures ∙ rw (c .before .match .keys1)
+returns c = c .up-to .ensures ∙ rw (c .before .match .keys1)
 
 returns-2 : tie.Need-returns-2
 unfolding table lookup rowOf
-returns-2 c = c .limits2 .ensures ∙ rw (c .before .match .keys2)
+returns-2 c = c .up-to2 .ensures ∙ rw (c .before .match .keys2)
 
 returns-3 : tie.Need-returns-3
 unfolding table lookup rowOf
-returns-3 c = c .limits3 .ensures ∙ rw (c .before .match .keys3)
+returns-3 c = c .up-to3 .ensures ∙ rw (c .before .match .keys3)
 
 returns-4 : tie.Need-returns-4
 unfolding table lookup rowOf
-returns-4 c = c .limits4 .ensures ∙ limits-arm 1 255 (λ (r : Row). r .size) ((4 ∷ []) ∷ (13 ∷ []) ∷ (33 ∷ []) ∷ []) 4 3 _ (c .before .before .before .match .rest) (omega arith) (omega arith) tt
+returns-4 c = c .up-to4 .ensures ∙ limits-arm 1 255 (λ (r : Row). r .size) ((4 ∷ []) ∷ (13 ∷ []) ∷ (33 ∷ []) ∷ []) 4 3 _ (c .before .before .before .match .rest) (omega arith) (omega arith) tt
 
 returns-5 : tie.Need-returns-5
 unfolding table lookup rowOf
 returns-5 c =
-    c .limits5 .ensures
+    c .limits .ensures
     ∙ ⊎-elim (λ w. limits-arm 0 0 (λ (r : Row). r .size) ((4 ∷ []) ∷ (13 ∷ []) ∷ (33 ∷ []) ∷ []) 0 4 _ (c .before .before .match .rest) (omega arith) (omega arith) tt)
     (λ w. limits-arm 0 0 (λ (r : Row). r .size) ((4 ∷ []) ∷ (13 ∷ []) ∷ (33 ∷ []) ∷ []) 7 249 _ (c .before .before .match .rest) (omega arith) (omega arith) tt)
     (c .before .if1 .came)
@@ -52,11 +52,11 @@ pub size-of-spec : {M : Type 1} → statement M
 size-of-spec =
     tie.close
     (tie.spec
+    up-to-requires
+    up-to-requires-2
+    up-to-requires-3
+    up-to-requires-4
     limits-requires
-    limits-requires-2
-    limits-requires-3
-    limits-requires-4
-    limits-requires-5
     returns
     returns-2
     returns-3

@@ -45,12 +45,12 @@ add-if1 c =
 
 is-free-requires : tie.Need-is-free-requires
 is-free-requires c κs =
-    let s = c .before .before .before .before .before .before in
+    let s = c .before .before .before .before .before .before .before in
     (inside s, c .if1 .taken)
 
 put-requires : tie.Need-put-requires
 put-requires c κs =
-    let s = c .before .before .before .before .before .before .before .before .before in
+    let s = c .before .before .before .before .before .before .before .before .before .before in
     ((index s, omega (arith, c .before .before .before .if1 .taken, s .pre .size)), (known s .place, omega (arith, known s .own)))
 
 same-length : tie.Need-same-length
@@ -58,9 +58,9 @@ same-length c = search needs
 
 returns : tie.Need-returns
 returns c =
-    let s = c .before .before .before .before .before .before .before .before .before .before .before .before in
+    let s = c .before .before .before .before .before .before .before .before .before .before .before .before .before in
     let a = s .args in
-    let e = c .before .before .before .before .before .before .before .next-place .ensures ∙ ap (λ (n : Node). nextPlace (a .i * 240) (n .list)) (known s .there) in
+    let e = c .before .before .before .before .before .before .before .before .next-place .ensures ∙ ap (λ (n : Node). nextPlace (a .i * 240) (n .list)) (known s .there) in
     rw (c .before .before .put .ensures .0, c .before .before .put .ensures .1)
     (put-added full (a .store .now) (a .t1) (a .i) (a .answer .now) (s .pre) (a .i * 240) _ e
     (sym (c .before .before .before .before .before .is-free .ensures) ∙ c .before .before .before .before .if2 .taken)

@@ -46,9 +46,9 @@ array-copy-out-h c = search needs
 returns : tie.Need-returns Inv-loop μ-loop
 unfolding bounded
 returns c =
-    let hs : List Words = c .before .before .before .before .before .args .t1 in
-    let n = long (c .before .before .before .before .before) in
-    let l = c .before .before .before .before .loop in
+    let hs : List Words = c .before .before .before .before .before .before .args .t1 in
+    let n = long (c .before .before .before .before .before .before) in
+    let l = c .before .before .before .before .before .loop in
     let h : full .limit < getD (counts hs) (l .i) 0 = omega (arith, count-at hs (l .i)) in
     sym (no-and _ (l .inv .1 ∙ every-at (λ h. leb h (full .limit)) (counts hs) (l .i) 0 (omega arith) ∙ no-and _ (lt-leb _ _ h)))
 
@@ -60,9 +60,9 @@ loop-less c = search needs
 
 loop-again : tie.Need-loop-again Inv-loop μ-loop
 loop-again c =
-    let hs : List Words = c .before .before .before .before .before .args .t1 in
-    let n = long (c .before .before .before .before .before) in
-    let l = c .before .before .before .before .loop in
+    let hs : List Words = c .before .before .before .before .before .before .args .t1 in
+    let n = long (c .before .before .before .before .before .before) in
+    let l = c .before .before .before .before .before .loop in
     let h : getD (counts hs) (l .i) 0 ≤ full .limit = omega (arith, count-at hs (l .i)) in
     (omega arith, l .inv .1 ∙ every-at (λ h. leb h (full .limit)) (counts hs) (l .i) 0 (omega arith) ∙ yes-and (le-leb _ _ h))
 
@@ -74,7 +74,7 @@ charges-requires c κs =
 
 returns-2 : tie.Need-returns-2 Inv-loop μ-loop
 unfolding bounded
-returns-2 c = rw (c .before .charges .ensures) (sym (yes-and (all-in (c .before .before))))
+returns-2 c = rw (c .before .before .charges .ensures) (sym (yes-and (all-in (c .before .before .before))))
 
 pub bounds-met-spec : {M : Type 1} → statement M
 bounds-met-spec =

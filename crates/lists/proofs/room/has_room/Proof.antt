@@ -45,7 +45,7 @@ sub-if1 c =
 
 returns : tie.Need-returns
 returns c =
-    let d = c .before .before .before .before in
+    let d = c .before .before .before .before .before in
     let a = d .before .args in
     sym (no-room full (holds d) (a .i) (a .new .0) (omega (arith, held-there d (a .i))))
 
@@ -60,7 +60,7 @@ array-set-from-hs c = search needs
 
 charges-requires : tie.Need-charges-requires
 charges-requires c κs =
-    let d = c .before .before .before .before .before .before in
+    let d = c .before .before .before .before .before .before .before in
     let a = d .before .args in
     let e = held-there d (a .i) in
     let f = held-few d (a .i) (d .before .pre .1) in
@@ -73,13 +73,13 @@ charges-requires c κs =
 
 returns-2 : tie.Need-returns-2
 returns-2 c =
-    let d = c .before .before .before .before .before .before .before .before in
+    let d = c .before .before .before .before .before .before .before .before .before .before in
     let a = d .before .args in
     let hs : List ℕ = holds d in
     let e = held-there d (a .i) in
     let f = held-few d (a .i) (d .before .pre .1) in
-    let r : c .before .charges .result .0 ≡ chargesOf (full .share) (set hs (a .i) (getD hs (a .i) 0 + a .new .0)) =
-    c .before .charges .ensures ∙ rw (map-set, d .helds .ensures, e) in
+    let r : c .before .before .charges .result .0 ≡ chargesOf (full .share) (set hs (a .i) (getD hs (a .i) 0 + a .new .0)) =
+    c .before .before .charges .ensures ∙ rw (map-set, d .helds .ensures, e) in
     rw r (sym (room-by-charges full hs (a .i) (a .new .0) (omega arith)))
 
 pub has-room-spec : {M : Type 1} → statement M

@@ -14,14 +14,14 @@ returns c = no-command _ (λ f. omega arith)
 two-at-requires : tie.Need-two-at-requires
 two-at-requires c κs = search needs
 
-returns-2 : tie.Need-returns-2
-returns-2 c = ⊎-elim (λ w. no-command _ (λ f. omega arith)) (λ w. no-command _ (λ f. omega (arith, ltb-true))) (c .if2 .came)
-
 cast-if4 : tie.Need-cast-if4
 cast-if4 c = search needs
 
-mul-if4 : tie.Need-mul-if4
-mul-if4 c = search needs
+returns-2 : tie.Need-returns-2
+returns-2 c = ⊎-elim (λ w. no-command _ (λ f. omega arith)) (λ w. no-command _ (λ f. omega (arith, ltb-true))) (c .if2 .came)
+
+bytes-requires : tie.Need-bytes-requires
+bytes-requires c κs = omega (arith, ltb-false)
 
 add-if4 : tie.Need-add-if4
 add-if4 c = search needs
@@ -29,11 +29,8 @@ add-if4 c = search needs
 returns-3 : tie.Need-returns-3
 returns-3 c = no-command _ (λ f. omega arith)
 
-cast-t3 : tie.Need-cast-t3
-cast-t3 c = search needs
-
 returns-4 : tie.Need-returns-4
-returns-4 c = rw (c .before .before .before .two-at .ensures) (a-command _ (record { low = omega arith; high = omega (arith, ltb-false); there = omega arith }))
+returns-4 c = rw (c .before .before .before .before .before .before .before .before .before .two-at .ensures) (a-command _ (record { low = omega arith; high = omega (arith, ltb-false); there = omega arith }))
 
 pub command-of-spec : {M : Type 1} → statement M
 command-of-spec =
@@ -41,10 +38,9 @@ command-of-spec =
     (tie.spec
     returns
     two-at-requires
-    returns-2
     cast-if4
-    mul-if4
+    returns-2
+    bytes-requires
     add-if4
     returns-3
-    cast-t3
     returns-4)

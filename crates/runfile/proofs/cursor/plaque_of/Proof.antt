@@ -21,11 +21,11 @@ returns-2 c = ⊎-elim (λ w. no-plaque full _ (λ f. omega arith)) (λ w. no-pl
 two-at-requires : tie.Need-two-at-requires
 two-at-requires c κs = search needs
 
-returns-3 : tie.Need-returns-3
-returns-3 c = ⊎-elim (λ w. no-plaque full _ (λ f. omega arith)) (λ w. no-plaque full _ (λ f. omega (arith, ltb-true))) (c .if4 .came)
-
 cast-if6 : tie.Need-cast-if6
 cast-if6 c = search needs
+
+returns-3 : tie.Need-returns-3
+returns-3 c = ⊎-elim (λ w. no-plaque full _ (λ f. omega arith)) (λ w. no-plaque full _ (λ f. omega (arith, ltb-true))) (c .if4 .came)
 
 add-if6 : tie.Need-add-if6
 add-if6 c = search needs
@@ -33,12 +33,9 @@ add-if6 c = search needs
 returns-4 : tie.Need-returns-4
 returns-4 c = no-plaque full _ (λ f. omega arith)
 
-cast-t4 : tie.Need-cast-t4
-cast-t4 c = search needs
-
 returns-5 : tie.Need-returns-5
 returns-5 c =
-    rw (c .before .before .before .two-at .ensures)
+    rw (c .before .before .before .before .before .before .before .two-at .ensures)
     (a-plaque full _ (record { node-low = omega arith; node-high = omega (arith, ltb-false); low = omega arith; high = omega (arith, ltb-false); there = omega arith }))
 
 pub plaque-of-spec : {M : Type 1} → statement M
@@ -49,9 +46,8 @@ plaque-of-spec =
     shared-slice-read-node
     returns-2
     two-at-requires
-    returns-3
     cast-if6
+    returns-3
     add-if6
     returns-4
-    cast-t4
     returns-5)
