@@ -6,6 +6,8 @@ use state::reader::Plaque;
 use state::reader::Reader;
 use state::reader::Reading;
 use state::reader::Report;
+use units::Bytes;
+use units::Words;
 ghost use mathlib.Core.Path.{_≡_};
 ghost use Prim.Native.Nat.{_<_};
 ghost use lib.ListN.{drop, getD};
@@ -36,7 +38,7 @@ fn plaque_ok(p: Plaque) -> bool
         if p.length.0 < 1 {
             return false;
         }
-        return p.length.0 <= 1024;
+        return p.length.0 <= Bytes::REGION.0;
     }
     if p.length.0 != 0 {
         return false;
@@ -57,10 +59,10 @@ fn reading_ok(x: Reading, kept: bool) -> bool
         }
         return !kept;
     }
-    if 255 < size {
+    if Bytes::DATA.0 < size {
         return false;
     }
-    if 1024 < x.start as usize + size {
+    if Bytes::REGION.0 < x.start as usize + size {
         return false;
     }
     x.delay <= 60
@@ -133,7 +135,7 @@ fn name_ok(x: Name) -> bool
     ensures { λ r. ⌜ r ≡ nameOk x ⌝ }
 {
     let length = x.length.0;
-    if 64 < length {
+    if Bytes::NAME.0 < length {
         return false;
     }
     all_zero(&x.bytes, length)
@@ -143,10 +145,10 @@ fn name_ok(x: Name) -> bool
 pub fn unfit(s: State, store: &[u16], plaques: &[u8]) -> u8
     ensures { λ r. ⌜ r ≡ unfit full (machine s (now (store .entry)) (now (plaques .entry))) ⌝ }
 {
-    if store.len() != 4096 {
+    if store.len() != Words::STORE.0 {
         return 1;
     }
-    if plaques.len() != 16384 {
+    if plaques.len() != Bytes::PLAQUES.0 {
         return 1;
     }
     let nodes = s.nodes;

@@ -18,7 +18,7 @@ returns c = sym (yes-and (eight (c .before .before)) ∙ yes-cond _ (c .before .
 
 returns-2 : tie.Need-returns-2
 unfolding plaqueOk
-returns-2 c = sym (yes-and (eight (c .before .before)) ∙ yes-cond _ (c .before .if1 .taken) ∙ yes-and (le-leb 1 _ (c .if2 .left)))
+returns-2 c = sym (yes-and (eight (c .before .before .before)) ∙ yes-cond _ (c .before .before .if1 .taken) ∙ yes-and (le-leb 1 _ (c .before .if2 .left)))
 
 returns-3 : tie.Need-returns-3
 unfolding plaqueOk

@@ -20,7 +20,7 @@ returns-3 c = sym (yes-cond _ (eq-eqb _ _ (c .before .before .before .before .if
 
 returns-4 : tie.Need-returns-4
 unfolding readingOk
-returns-4 c = sym (no-cond _ (ne-eqb _ _ (c .before .if1 .left)) ∙ no-and _ (lt-leb _ _ (c .if4 .taken)))
+returns-4 c = sym (no-cond _ (ne-eqb _ _ (c .before .before .if1 .left)) ∙ no-and _ (lt-leb _ _ (c .if4 .taken)))
 
 cast-if5 : tie.Need-cast-if5
 cast-if5 c = search needs
@@ -30,11 +30,11 @@ add-if5 c = search needs
 
 returns-5 : tie.Need-returns-5
 unfolding readingOk
-returns-5 c = sym (no-cond _ (ne-eqb _ _ (c .before .before .before .if1 .left)) ∙ yes-and (le-leb _ _ (c .before .before .if4 .left)) ∙ no-and _ (lt-leb _ _ (c .if5 .taken)))
+returns-5 c = sym (no-cond _ (ne-eqb _ _ (c .before .before .before .before .before .if1 .left)) ∙ yes-and (le-leb _ _ (c .before .before .before .if4 .left)) ∙ no-and _ (lt-leb _ _ (c .if5 .taken)))
 
 returns-6 : tie.Need-returns-6
 unfolding readingOk
-returns-6 c = sym (no-cond _ (ne-eqb _ _ (c .before .before .before .before .if1 .left)) ∙ yes-and (le-leb _ _ (c .before .before .before .if4 .left)) ∙ yes-and (le-leb _ _ (c .before .if5 .left)))
+returns-6 c = sym (no-cond _ (ne-eqb _ _ (c .before .before .before .before .before .before .if1 .left)) ∙ yes-and (le-leb _ _ (c .before .before .before .before .if4 .left)) ∙ yes-and (le-leb _ _ (c .before .if5 .left)))
 
 pub reading-ok-spec : {M : Type 1} → statement M
 reading-ok-spec =

@@ -15,9 +15,9 @@ use Rattle.fit.proofs.unfit.Statement.{statement}
 use Rattle.fit.proofs.unfit.Tie as tie
 
 -- past the lengths
-long : (c : tie.Else2) → (let a = c .before .before .before .before .args in let m = machine (a .s) (a .store .now) (a .plaques .now) in unfit full m ≡ refusal (2 when not (consistent full m)))
+long : (c : tie.Else2) → (let a = c .before .before .before .before .before .before .args in let m = machine (a .s) (a .store .now) (a .plaques .now) in unfit full m ≡ refusal (2 when not (consistent full m)))
 unfolding unfit lent lengths
-long c = pass-if 1 _ (ap not (yes-and (eq-eqb _ _ (c .before .if1 .left)) ∙ eq-eqb _ _ (c .if2 .left)))
+long c = pass-if 1 _ (ap not (yes-and (eq-eqb _ _ (c .before .before .if1 .left)) ∙ eq-eqb _ _ (c .if2 .left)))
 
 -- the arrays' lengths are in their types
 sized : (c : tie.Start) → arrays full (c .args .s) ≡ true
@@ -29,13 +29,13 @@ sized c =
     yes-and (eq-eqb _ _ x) ∙ yes-and (eq-eqb _ _ r) ∙ eq-eqb _ _ n
 
 -- a test that was passed
-lists : (c : tie.Else3) → listsOk full (c .before .before .before .before .before .before .before .args .store .now) (c .before .before .before .before .before .before .before .args .s .nodes) ≡ true
+lists : (c : tie.Else3) → listsOk full (c .before .before .before .before .before .before .before .before .before .args .store .now) (c .before .before .before .before .before .before .before .before .before .args .s .nodes) ≡ true
 lists c = sym (c .before .lists-ok .ensures) ∙ not-false _ (c .if3 .left)
 
-nodes : (c : tie.Else4) → every nodeOk (c .before .before .before .before .before .before .before .before .before .args .s .nodes) ≡ true
+nodes : (c : tie.Else4) → every nodeOk (c .before .before .before .before .before .before .before .before .before .before .before .args .s .nodes) ≡ true
 nodes c = sym (c .before .nodes-ok .ensures) ∙ not-false _ (c .if4 .left)
 
-readers : (c : tie.Else5) → every (readerOk full) (c .before .before .before .before .before .before .before .before .before .before .before .args .s .readers) ≡ true
+readers : (c : tie.Else5) → every (readerOk full) (c .before .before .before .before .before .before .before .before .before .before .before .before .before .args .s .readers) ≡ true
 readers c = sym (c .before .readers-ok .ensures) ∙ not-false _ (c .if5 .left)
 
 returns : tie.Need-returns
@@ -44,7 +44,7 @@ returns c = sym (stop-if 1 _ refl (ap not (no-and _ (ne-eqb _ _ (c .if1 .taken))
 
 returns-2 : tie.Need-returns-2
 unfolding unfit lent lengths
-returns-2 c = sym (stop-if 1 _ refl (ap not (yes-and (eq-eqb _ _ (c .before .if1 .left)) ∙ ne-eqb _ _ (c .if2 .taken))))
+returns-2 c = sym (stop-if 1 _ refl (ap not (yes-and (eq-eqb _ _ (c .before .before .if1 .left)) ∙ ne-eqb _ _ (c .if2 .taken))))
 
 lists-ok-requires : tie.Need-lists-ok-requires
 lists-ok-requires c κs = search needs
@@ -86,7 +86,7 @@ returns-7 : tie.Need-returns-7
 unfolding consistent
 returns-7 c =
     sym (long (c .before .before .before .before .before .before .before .before .before .before)
-    ∙ none 2 (ap not (yes-and (lists (c .before .before .before .before .before .before .before)) ∙ yes-and (nodes (c .before .before .before .before .before)) ∙ yes-and (readers (c .before .before .before)) ∙ yes-and (sym (c .before .name-ok .ensures) ∙ not-false _ (c .if6 .left)) ∙ sized (c .before .before .before .before .before .before .before .before .before .before .before .before .before .before))))
+    ∙ none 2 (ap not (yes-and (lists (c .before .before .before .before .before .before .before)) ∙ yes-and (nodes (c .before .before .before .before .before)) ∙ yes-and (readers (c .before .before .before)) ∙ yes-and (sym (c .before .name-ok .ensures) ∙ not-false _ (c .if6 .left)) ∙ sized (c .before .before .before .before .before .before .before .before .before .before .before .before .before .before .before .before))))
 
 pub unfit-spec : {M : Type 1} → statement M
 unfit-spec =
