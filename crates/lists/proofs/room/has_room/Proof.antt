@@ -39,8 +39,8 @@ array-copy-out-h c = search needs
 
 sub-if1 : tie.Need-sub-if1
 sub-if1 c =
-    let s = c .before .before .before in
-    let d = c .before .before in
+    let s = c .before .before .before .before in
+    let d = c .before .before .before in
     omega (arith, held-there d (s .args .i), held-few d (s .args .i) (s .pre .1))
 
 returns : tie.Need-returns
