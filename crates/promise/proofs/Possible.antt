@@ -95,8 +95,8 @@ joined-some m h e n is w formed f =
     let runs : List ℕ = runsOf (m .store) i w 0 ns in
     let rest : List ℕ = drop (length runs) (m .store) in
     let long : length (runs ++ rest) ≡ length (m .store) =
-    omega (arith, length-append runs rest, length-drop (length runs) (m .store), runs-fit full (m .store) ns i w (lit≤ tt) j, p .store) in
-    let a = packed-added full (m .store) ns i w (lit≤ tt) j (runs ++ rest) rest refl long in
+    omega (arith, length-append runs rest, length-drop (length runs) (m .store), runs-fit full (m .store) ns i w j, p .store) in
+    let a = packed-added full (m .store) ns i w j (runs ++ rest) rest refl long in
     let s = withNodes (m .state) (packedFrom 0 (joinedIn ns i 0 (length w))) in
     record {
       there = machine s (runs ++ rest) (m .memory);
