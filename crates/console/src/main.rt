@@ -4,7 +4,6 @@ use gather::gather;
 use libc::STDERR_FILENO;
 use libc::STDIN_FILENO;
 use state::State;
-use streams::is_help;
 use streams::put;
 use streams::take;
 use talk::talk;
@@ -110,25 +109,12 @@ fn play() {
     }
 }
 
-fn explain() {
-    let mut word = io::buffer();
-    let n = os::arg(1, &mut word);
-    if is_help(&word[..n]) {
-        put(b"usage: console\n");
-        put(
-            b"Plays calls, a line each, from standard input, and writes an answer a line. See docs/CONSOLE.md\n",
-        );
-        return;
-    }
-    io::write_all(
-        STDERR_FILENO,
-        b"console: it takes no arguments: calls come as lines on standard input, see docs/CONSOLE.md\n",
-    );
-}
-
 fn main() {
     if 1 < os::arg_count() {
-        explain();
+        io::write_all(
+            STDERR_FILENO,
+            b"console: it takes no arguments: calls come as lines on standard input, see docs/CONSOLE.md\n",
+        );
         return;
     }
     play();

@@ -1,7 +1,6 @@
 // Plays run files, and writes their listings to standard output: each file that is named, with `-` for standard input, or standard input
 // where none is. A file that cannot be read is said on standard error and has no listing; where a listing cannot be written, that is said
 // there too, and nothing more is played.
-use check::same;
 use libc::STDERR_FILENO;
 use libc::STDIN_FILENO;
 use listingout::put_broken;
@@ -12,7 +11,6 @@ use nightrun::walk::turn;
 use plaques::copy_bytes;
 use state::State;
 use streams::Got;
-use streams::is_help;
 use streams::put;
 use streams::take;
 ghost use mathlib.Core.Path.{_≡_};
@@ -118,6 +116,17 @@ fn play_file(name: &[u8]) -> bool {
     written
 }
 
+// Whether an argument asks for help: -h, --help, or what begins so.
+fn is_help(word: &[u8]) -> bool {
+    if word.len() < 2 || word[0] != b'-' {
+        return false;
+    }
+    if word[1] != b'-' {
+        return word[1] == b'h';
+    }
+    2 < word.len() && word[2] == b'h'
+}
+
 // No file is played after an option.
 fn explain(option: &[u8]) {
     if is_help(option) {
@@ -135,14 +144,14 @@ fn explain(option: &[u8]) {
 }
 
 fn play_word(word: &[u8]) -> bool {
-    if same(word, b"-") {
+    if word.len() == 0 || word[0] != b'-' {
+        return play_file(word);
+    }
+    if word.len() == 1 {
         return play(STDIN_FILENO, b"standard input");
     }
-    if 0 < word.len() && word[0] == b'-' {
-        explain(word);
-        return false;
-    }
-    play_file(word)
+    explain(word);
+    false
 }
 
 fn play_argument(i: usize) -> bool {

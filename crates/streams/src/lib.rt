@@ -1,17 +1,15 @@
 // Reading and writing as a program meets them: a call may move fewer bytes than it is lent, a signal may interrupt it, and a pipe or a
 // terminal that another program left non-blocking answers EAGAIN in place of waiting. None of these loses a byte here.
-use check::same;
 use libc::STDOUT_FILENO;
-ghost use mathlib.Core.Path.{_≡_};
-ghost use mathlib.Core.Bool.{true};
-ghost use Prim.Native.Nat.{_≤_};
 ghost use lib.ListN.{length};
-ghost use Rattle.streams.specs.Help.{AsksHelp};
+ghost use Prim.Native.Nat.{_≤_};
 
 // How often a call that moved nothing is made again. (No night lasts as long; the count shows the prover that it ends.)
 const PATIENCE: u64 = u64::MAX;
 
-// Whether a call that answered less than 1 is to be made again; it has then waited a little. errno stays as the call left it.
+// Whether a call that answered less than 1 is to be made again. errno stays as the call left it. Where a descriptor does not wait, this
+// lets others run and tries again: it costs processor time while the other side is slow, and no byte. (The libraries have no poll, and
+// nanosleep takes a struct by reference, which would have to be walked by hand.)
 fn again(got: isize) -> bool {
     if got == 0 {
         return false;
@@ -74,14 +72,4 @@ pub fn take(fd: i32, bytes: &mut [u8]) -> Got
         tries -= 1;
     }
     Got { n: 0, ok: false }
-}
-
-// Whether a word asks what a program does.
-pub fn is_help(word: &[u8]) -> bool
-    ensures { λ r. ⌜ (r ≡ true → AsksHelp (now (word .entry))) × (AsksHelp (now (word .entry)) → r ≡ true) ⌝ }
-{
-    if same(word, b"-h") {
-        return true;
-    }
-    same(word, b"--help")
 }
