@@ -109,7 +109,8 @@ def statuses():
 
 if __name__ == '__main__':
     for one in 'night', 'console':
-        expect('./play -p ' + one, ran([str(ROOT / 'play'), '-p', one, '--help']).stdout.startswith(b'usage: ' + one.encode()))
+        said = ran([str(ROOT / 'play'), '-p', one, '--help'])
+        expect('./play -p ' + one, b'usage: ' + one.encode() in said.stdout + said.stderr)
     outputs()
     inputs()
     statuses()

@@ -113,7 +113,7 @@ fn main() {
     if 1 < os::arg_count() {
         io::write_all(
             STDERR_FILENO,
-            b"console: it takes no arguments: calls come as lines on standard input, see docs/CONSOLE.md\n",
+            b"usage: console (no arguments): calls come as lines on standard input, see docs/CONSOLE.md\n",
         );
         return;
     }

@@ -46,7 +46,7 @@ add-if1 c =
 is-free-requires : tie.Need-is-free-requires
 is-free-requires c κs =
     let s = c .before .before .before .before .before .before .before in
-    (inside s, c .if1 .taken)
+    (inside s, omega (arith, c .if1 .taken))
 
 put-requires : tie.Need-put-requires
 put-requires c κs =
