@@ -18,7 +18,7 @@ use Rattle.meaning.specs.Call.{same, named, step, run}
 use Rattle.meaning.specs.Cases.{Case, _says_, hex, bytes, march, midnight, search, reads, goesOn}
 use Rattle.demands.specs.Demand.{stays, struck, Line, line, log, ours}
 use Rattle.demands.specs.Counts.{isQueued, isAck, counting, tally, Past, past}
-use Rattle.demands.specs.Wrong.{pastPlaque, wrong}
+use Rattle.demands.specs.Wrong.{pastPlaque, tooShort, wrong}
 
 -- ---- calls and gateways
 abbrev pub blank : Gateway
@@ -260,6 +260,8 @@ pendingCases =
     ∷ "15: the next number" says gives 15 before (acknowledge 2 2)
     ∷ "15: 0" says gives 15 before (acknowledge 2 0)
     ∷ "15: a number of more than 16 bits" says gives 15 before (acknowledge 2 65537)
+    ∷ "15: two answers so far, and the number is 1" says gives 0 (after (cmd (search 2) ∷ cmd (search 2) ∷ [])) (acknowledge 2 1)
+    ∷ "15: it is not the instance count" says gives 15 (after (cmd (search 2) ∷ cmd (search 2) ∷ [])) (acknowledge 2 2)
     ∷ "15: the gateway's number" says gives 15 before (acknowledge 32 2)
     ∷ "16: room for the answer" says gives 0 before (collect Register 2 6)
     ∷ "16: a word less" says gives 16 before (collect Register 2 5)
@@ -267,6 +269,7 @@ pendingCases =
     ∷ "16: room without word 00" says gives 16 before (collect Framed 2 6)
     ∷ "16: node 1 has no word 00" says gives 0 (after (cmd (search 1) ∷ [])) (collect Framed 1 7)
     ∷ "16: node 1, a word less" says gives 16 (after (cmd (search 1) ∷ [])) (collect Framed 1 6)
+    ∷ "16 is not for a node with no answer" says not (tooShort (blank .nodes 2) (collect Register 2 0))
     ∷ "3 before all" says gives 3 before (check 99 (midnight 2 30) 0)
     ∷ "7 before 14" says gives 7 before (leave 17)
     ∷ "10 before 12" says gives 10 tagged (cmd (reads 2 5 0))
