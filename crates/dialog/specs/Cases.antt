@@ -100,6 +100,8 @@ unfoldable pub numberCases : List Case
 numberCases =
     "ten digits" says "leave 0000000001" brings "refused 14"
     ∷ "eleven digits" says "leave 00000000001" brings "unreadable"
+    ∷ "no digit" says "leave " brings "unreadable"
+    ∷ "no digit, and a number behind" says "acknowledge  1" brings "unreadable"
     ∷ "a minus" says "leave -1" brings "unreadable"
     ∷ "a plus" says "leave +1" brings "unreadable"
     ∷ "a letter" says "leave 1x" brings "unreadable"
