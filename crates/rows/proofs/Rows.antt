@@ -87,5 +87,6 @@ pub gates-last : (m : ℕ) → Rest ((17 ∷ []) ∷ (33 ∷ []) ∷ (96 ∷ [])
 unfolding table lookup rowOf suits
 gates-last m r k e =
     let g : T (not (suits (rowOf full m .kind) hub) || eqb 121 m) =
-    rest ((17 ∷ []) ∷ (33 ∷ []) ∷ (96 ∷ []) ∷ (97 ∷ []) ∷ []) (λ (x : ℕ). not (suits (rowOf full x .kind) hub) || eqb 121 x) 0 256 m r (omega arith) k tt in
+    rest ((17 ∷ []) ∷ (33 ∷ []) ∷ (96 ∷ []) ∷ (97 ∷ []) ∷ []) (λ (x : ℕ). not (suits (rowOf full x .kind) hub) || eqb 121 x)
+    0 256 m r (omega arith) k tt in
     eqb→eq 121 m (subst (λ (t : Bool). T (not t || eqb 121 m)) e g)

@@ -1,6 +1,6 @@
-use mathlib.Core.Path.{refl}
+use Prim.Native.Nat.{ℕ}
 use native.Mathlib.Omega.{arith}
-use mathlib.Core.List.{[], _∷_}
+use mathlib.Core.List.{List, [], _∷_}
 use mathlib.Core.Logic.{⊎-elim}
 use Rattle.meaning.specs.declared.table.Row.{Row}
 use Rattle.meaning.specs.Table.{table, lookup, rowOf}
@@ -8,6 +8,10 @@ use Rattle.rows.proofs.Rows.{unknown-arm, gates-keys, gates-range}
 use borrow.Author.Needs.{needs}
 use Rattle.rows.proofs.kind_of.Statement.{statement}
 use Rattle.rows.proofs.kind_of.Tie as tie
+
+-- the single numbers of the arms
+abbrev singles : List (List ℕ)
+singles = (13 ∷ []) ∷ (84 ∷ []) ∷ (17 ∷ 33 ∷ 121 ∷ []) ∷ []
 
 on-plaque-requires : tie.Need-on-plaque-requires
 on-plaque-requires c κs = search needs
@@ -28,15 +32,17 @@ returns-3 c = c .on-plaque .ensures
 
 returns-4 : tie.Need-returns-4
 unfolding table lookup rowOf
-returns-4 c = unknown-arm (λ (r : Row). r .kind) ((13 ∷ []) ∷ (84 ∷ []) ∷ (17 ∷ 33 ∷ 121 ∷ []) ∷ []) 0 4 _ (c .before .match .rest) (omega arith) (omega arith) tt
+returns-4 c = unknown-arm (λ (r : Row). r .kind) singles 0 4 _ (c .before .match .rest) (omega arith) (omega arith) tt
 
 returns-5 : tie.Need-returns-5
 unfolding table lookup rowOf
-returns-5 c = unknown-arm (λ (r : Row). r .kind) ((13 ∷ []) ∷ (84 ∷ []) ∷ (17 ∷ 33 ∷ 121 ∷ []) ∷ []) 9 87 _ (c .before .before .before .match .rest) (omega arith) (omega arith) tt
+returns-5 c =
+    unknown-arm (λ (r : Row). r .kind) singles 9 87 _ (c .before .before .before .match .rest) (omega arith) (omega arith) tt
 
 returns-6 : tie.Need-returns-6
 unfolding table lookup rowOf
-returns-6 c = unknown-arm (λ (r : Row). r .kind) ((13 ∷ []) ∷ (84 ∷ []) ∷ (17 ∷ 33 ∷ 121 ∷ []) ∷ []) 98 158 _ (c .before .before .before .before .match .rest) (omega arith) (omega arith) tt
+returns-6 c =
+    unknown-arm (λ (r : Row). r .kind) singles 98 158 _ (c .before .before .before .before .match .rest) (omega arith) (omega arith) tt
 
 returns-7 : tie.Need-returns-7
 returns-7 c = c .of-gateway .ensures

@@ -34,11 +34,14 @@ returns-4 c = nothing-arm (λ (r : Row). r .load) singles 9 87 _ (c .before .bef
 
 returns-5 : tie.Need-returns-5
 unfolding table lookup rowOf
-returns-5 c = nothing-arm (λ (r : Row). r .load) singles 98 158 _ (c .before .before .before .before .match .rest) (omega arith) (omega arith) tt
+returns-5 c =
+    nothing-arm (λ (r : Row). r .load) singles 98 158 _ (c .before .before .before .before .match .rest) (omega arith) (omega arith) tt
 
 returns-6 : tie.Need-returns-6
 unfolding table lookup rowOf
-returns-6 c = keys (λ (k : ℕ). Nothing ≡ rowOf full k .load) (5 ∷ 13 ∷ 17 ∷ 84 ∷ 121 ∷ []) _ (c .match .keys3) (refl, (refl, (refl, (refl, (refl, tt)))))
+returns-6 c =
+    keys (λ (k : ℕ). Nothing ≡ rowOf full k .load)
+    (5 ∷ 13 ∷ 17 ∷ 84 ∷ 121 ∷ []) _ (c .match .keys3) (refl, (refl, (refl, (refl, (refl, tt)))))
 
 returns-7 : tie.Need-returns-7
 unfolding table lookup rowOf
@@ -46,7 +49,8 @@ returns-7 c = nothing-arm (λ (r : Row). r .load) singles 4 5 _ (c .before .befo
 
 returns-8 : tie.Need-returns-8
 unfolding table lookup rowOf
-returns-8 c = nothing-arm (λ (r : Row). r .load) singles 96 2 _ (c .before .before .before .before .match .rest) (omega arith) (omega arith) tt
+returns-8 c =
+    nothing-arm (λ (r : Row). r .load) singles 96 2 _ (c .before .before .before .before .match .rest) (omega arith) (omega arith) tt
 
 pub load-of-spec : {M : Type 1} → statement M
 load-of-spec =

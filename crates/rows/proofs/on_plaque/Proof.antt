@@ -27,7 +27,8 @@ returns-4 c = rw (c .match .keys4)
 returns-5 : tie.Need-returns-5
 unfolding table lookup rowOf
 returns-5 c =
-    let e = rest-is ((4 ∷ []) ∷ (5 ∷ []) ∷ (6 ∷ []) ∷ (7 ∷ []) ∷ []) (λ (k : ℕ). k) 8 4 5 _ (c .match .rest) (omega arith) (omega arith) tt in
+    let e = rest-is ((4 ∷ []) ∷ (5 ∷ []) ∷ (6 ∷ []) ∷ (7 ∷ []) ∷ []) (λ (k : ℕ). k) 8 4 5 _
+    (c .match .rest) (omega arith) (omega arith) tt in
     rw (← e)
 
 pub on-plaque-spec : {M : Type 1} → statement M

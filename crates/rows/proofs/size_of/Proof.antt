@@ -38,7 +38,10 @@ returns-3 c = c .up-to3 .ensures ∙ rw (c .before .match .keys3)
 
 returns-4 : tie.Need-returns-4
 unfolding table lookup rowOf
-returns-4 c = c .up-to4 .ensures ∙ limits-arm 1 255 (λ (r : Row). r .size) ((4 ∷ []) ∷ (13 ∷ []) ∷ (33 ∷ []) ∷ []) 4 3 _ (c .before .before .before .match .rest) (omega arith) (omega arith) tt
+returns-4 c =
+    c .up-to4 .ensures
+    ∙ limits-arm 1 255 (λ (r : Row). r .size) ((4 ∷ []) ∷ (13 ∷ []) ∷ (33 ∷ []) ∷ []) 4 3 _
+    (c .before .before .before .match .rest) (omega arith) (omega arith) tt
 
 returns-5 : tie.Need-returns-5
 unfolding table lookup rowOf

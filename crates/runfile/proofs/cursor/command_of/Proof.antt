@@ -30,7 +30,9 @@ returns-3 : tie.Need-returns-3
 returns-3 c = no-command _ (λ f. omega arith)
 
 returns-4 : tie.Need-returns-4
-returns-4 c = rw (c .before .before .before .before .before .before .before .before .before .two-at .ensures) (a-command _ (record { low = omega arith; high = omega (arith, ltb-false); there = omega arith }))
+returns-4 c =
+    rw (c .before .before .before .before .before .before .before .before .before .two-at .ensures)
+    (a-command _ (record { low = omega arith; high = omega (arith, ltb-false); there = omega arith }))
 
 pub command-of-spec : {M : Type 1} → statement M
 command-of-spec =
