@@ -51,7 +51,8 @@ fn copy_answer(store: &[u16], place: usize, out: &mut [u16], to: usize)
     requires { ⌜ (place + getD (now store) place 0 ≤ length (now store)) × (1 ≤ getD (now store) place 0) × (to + getD (now store) place 0 ≤ length (now out)) ⌝ }
     ensures { λ _. ⌜ now (out .exit) ≡ putIn (now (out .entry)) to (answerAt (now (store .entry)) place) ⌝ }
 {
-    let end = place + store[place] as usize;
+    let words = Words(store[place] as usize);
+    let end = place + words.0;
     copy_in(&store[place..end], out, to);
 }
 
@@ -77,18 +78,18 @@ pub fn collect(
         return Handout::Refused(14);
     }
     let place = list.place;
-    let words = store[place] as usize;
+    let words = Words(store[place] as usize);
     if bears(form, node) {
-        if out.len() < words + 1 {
+        if out.len() < words.0 + 1 {
             return Handout::Refused(16);
         }
         out[0] = word(0xFF, node);
         copy_answer(store, place, out, 1);
-        return Handout::Handed(Words(words + 1), n.handover);
+        return Handout::Handed(Words(words.0 + 1), n.handover);
     }
-    if out.len() < words {
+    if out.len() < words.0 {
         return Handout::Refused(16);
     }
     copy_answer(store, place, out, 0);
-    Handout::Handed(Words(words), n.handover)
+    Handout::Handed(words, n.handover)
 }

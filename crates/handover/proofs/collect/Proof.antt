@@ -64,29 +64,29 @@ returns-2 c =
     let f = here (c .before .before .before .before) in
     collected-14 full (given (c .before .before .before .before .before .before .before .before .before)) (a .form) (a .node) (length (a .out .now)) (c .before .before .before .before .before .before .before .before .before .pre) (c .before .before .before .before .before .node-slot .result) (f .is) (f .slot) (node (c .before .before .before .before)) (f .at) (a .out .now) (c .if2 .taken)
 
-mul-words : tie.Need-mul-words
-mul-words c = record { fits = omega (arith, oldest c .inside, stored (c .before .before .before .before .before .before .before .before .before)) }
+mul-t14 : tie.Need-mul-t14
+mul-t14 c = record { fits = omega (arith, oldest c .inside, stored (c .before .before .before .before .before .before .before .before .before)) }
 
-shared-slice-read-words : tie.Need-shared-slice-read-words
-shared-slice-read-words c = let h = oldest (c .before) in omega (arith, h .inside, h .least)
+shared-slice-read-t19 : tie.Need-shared-slice-read-t19
+shared-slice-read-t19 c = let h = oldest (c .before) in omega (arith, h .inside, h .least)
 
-cast-words : tie.Need-cast-words
-cast-words c = record { fits = omega (arith, oldest (c .before) .most) }
+cast-t20 : tie.Need-cast-t20
+cast-t20 c = record { fits = omega (arith, oldest (c .before) .most) }
 
 bears-requires : tie.Need-bears-requires
 bears-requires c κs = search needs
 
 add-if4 : tie.Need-add-if4
-add-if4 c = record { fits = omega (arith, oldest (c .before .before .before) .most) }
+add-if4 c = record { fits = omega (arith, oldest (c .before .before .before .before) .most) }
 
 returns-3 : tie.Need-returns-3
 returns-3 c =
-    let a = c .before .before .before .before .before .before .before .before .before .before .before .before .before .args in
-    let f = here (c .before .before .before .before .before .before .before .before) in
-    let w : List ℕ = answer (c .before .before .before .before .before .before .before .before) in
-    let l = long (c .before .before .before .before) in
-    let g : bears (a .form) (a .node) ≡ true = sym (c .before .before .bears .ensures) ∙ c .before .if3 .taken in
-    collected-16 full (given (c .before .before .before .before .before .before .before .before .before .before .before .before .before)) (a .form) (a .node) (length (a .out .now)) (c .before .before .before .before .before .before .before .before .before .before .before .before .before .pre) (c .before .before .before .before .before .before .before .before .before .node-slot .result) (f .is) (f .slot) (node (c .before .before .before .before .before .before .before .before)) (f .at) (omega arith)
+    let a = c .before .before .before .before .before .before .before .before .before .before .before .before .before .before .args in
+    let f = here (c .before .before .before .before .before .before .before .before .before) in
+    let w : List ℕ = answer (c .before .before .before .before .before .before .before .before .before) in
+    let l = long (c .before .before .before .before .before) in
+    let g : bears (a .form) (a .node) ≡ true = sym (c .before .before .before .bears .ensures) ∙ c .before .before .if3 .taken in
+    collected-16 full (given (c .before .before .before .before .before .before .before .before .before .before .before .before .before .before)) (a .form) (a .node) (length (a .out .now)) (c .before .before .before .before .before .before .before .before .before .before .before .before .before .before .pre) (c .before .before .before .before .before .before .before .before .before .before .node-slot .result) (f .is) (f .slot) (node (c .before .before .before .before .before .before .before .before .before)) (f .at) (omega arith)
     (word 0xFF (a .node) ∷ w) (shown-headed (a .form) (a .node) w g) (a .out .now) (omega arith)
 
 word-requires : tie.Need-word-requires
@@ -97,43 +97,43 @@ slice-write-out c = search needs
 
 copy-answer-requires : tie.Need-copy-answer-requires
 copy-answer-requires c κs =
-    let a = c .before .before .before .before .before .before .before .before .before .before .before .before .before .before .before .args in
-    let h = oldest (c .before .before .before .before .before .before) in
+    let a = c .before .before .before .before .before .before .before .before .before .before .before .before .before .before .before .before .args in
+    let h = oldest (c .before .before .before .before .before .before .before) in
     let e : length (set (a .out .now) 0 (c .before .word .result)) ≡ length (a .out .now) = length-set (a .out .now) 0 (c .before .word .result) in
     (h .inside, omega (arith, h .least), omega arith)
 
-add-t21 : tie.Need-add-t21
-add-t21 c = search needs
+add-t22 : tie.Need-add-t22
+add-t22 c = search needs
 
 same-length : tie.Need-same-length
-same-length c = c .before .before .copy-answer .kept .1 .1 .0 ∙ length-set (c .before .before .before .before .before .before .before .before .before .before .before .before .before .before .before .before .before .before .args .out .now) 0 (c .before .before .before .before .word .result)
+same-length c = c .before .before .before .copy-answer .kept .1 .1 .0 ∙ length-set (c .before .before .before .before .before .before .before .before .before .before .before .before .before .before .before .before .before .before .before .before .args .out .now) 0 (c .before .before .before .before .before .word .result)
 
 returns-4 : tie.Need-returns-4
 returns-4 c =
-    let a = c .before .before .before .before .before .before .before .before .before .before .before .before .before .before .before .before .before .before .args in
-    let f = here (c .before .before .before .before .before .before .before .before .before .before .before .before .before) in
-    let w : List ℕ = answer (c .before .before .before .before .before .before .before .before .before .before .before .before .before) in
-    let l = long (c .before .before .before .before .before .before .before .before .before) in
-    let g : bears (a .form) (a .node) ≡ true = sym (c .before .before .before .before .before .before .before .bears .ensures) ∙ c .before .before .before .before .before .before .if3 .taken in
-    let q : c .before .before .copy-answer .last .1 .1 .0 ≡ putIn (set (a .out .now) 0 (word 0xFF (a .node))) 1 w =
-    c .before .before .copy-answer .ensures ∙ ap (λ (k : ℕ). putIn (set (a .out .now) 0 k) 1 w) (c .before .before .before .before .word .ensures) in
-    collected-0 full (given (c .before .before .before .before .before .before .before .before .before .before .before .before .before .before .before .before .before .before)) (a .form) (a .node) (length (a .out .now)) (c .before .before .before .before .before .before .before .before .before .before .before .before .before .before .before .before .before .before .pre) (c .before .before .before .before .before .before .before .before .before .before .before .before .before .before .node-slot .result) (f .is) (f .slot) (node (c .before .before .before .before .before .before .before .before .before .before .before .before .before)) (f .at) (omega arith)
-    (word 0xFF (a .node) ∷ w) (shown-headed (a .form) (a .node) w g) (omega arith) (a .out .now) (c .before .before .copy-answer .last .1 .1 .0)
+    let a = c .before .before .before .before .before .before .before .before .before .before .before .before .before .before .before .before .before .before .before .before .args in
+    let f = here (c .before .before .before .before .before .before .before .before .before .before .before .before .before .before .before) in
+    let w : List ℕ = answer (c .before .before .before .before .before .before .before .before .before .before .before .before .before .before .before) in
+    let l = long (c .before .before .before .before .before .before .before .before .before .before .before) in
+    let g : bears (a .form) (a .node) ≡ true = sym (c .before .before .before .before .before .before .before .before .before .bears .ensures) ∙ c .before .before .before .before .before .before .before .before .if3 .taken in
+    let q : c .before .before .before .copy-answer .last .1 .1 .0 ≡ putIn (set (a .out .now) 0 (word 0xFF (a .node))) 1 w =
+    c .before .before .before .copy-answer .ensures ∙ ap (λ (k : ℕ). putIn (set (a .out .now) 0 k) 1 w) (c .before .before .before .before .before .word .ensures) in
+    collected-0 full (given (c .before .before .before .before .before .before .before .before .before .before .before .before .before .before .before .before .before .before .before .before)) (a .form) (a .node) (length (a .out .now)) (c .before .before .before .before .before .before .before .before .before .before .before .before .before .before .before .before .before .before .before .before .pre) (c .before .before .before .before .before .before .before .before .before .before .before .before .before .before .before .before .node-slot .result) (f .is) (f .slot) (node (c .before .before .before .before .before .before .before .before .before .before .before .before .before .before .before)) (f .at) (omega arith)
+    (word 0xFF (a .node) ∷ w) (shown-headed (a .form) (a .node) w g) (omega arith) (a .out .now) (c .before .before .before .copy-answer .last .1 .1 .0)
     (q ∙ headed-written (a .out .now) w (word 0xFF (a .node)) (omega arith)) _ (omega arith)
 
 returns-5 : tie.Need-returns-5
 returns-5 c =
-    let a = c .before .before .before .before .before .before .before .before .before .before .before .before .before .args in
-    let f = here (c .before .before .before .before .before .before .before .before) in
-    let w : List ℕ = answer (c .before .before .before .before .before .before .before .before) in
-    let l = long (c .before .before .before .before) in
-    let g : bears (a .form) (a .node) ≡ false = sym (c .before .before .bears .ensures) ∙ c .before .if3 .left in
-    collected-16 full (given (c .before .before .before .before .before .before .before .before .before .before .before .before .before)) (a .form) (a .node) (length (a .out .now)) (c .before .before .before .before .before .before .before .before .before .before .before .before .before .pre) (c .before .before .before .before .before .before .before .before .before .node-slot .result) (f .is) (f .slot) (node (c .before .before .before .before .before .before .before .before)) (f .at) (omega arith)
+    let a = c .before .before .before .before .before .before .before .before .before .before .before .before .before .before .args in
+    let f = here (c .before .before .before .before .before .before .before .before .before) in
+    let w : List ℕ = answer (c .before .before .before .before .before .before .before .before .before) in
+    let l = long (c .before .before .before .before .before) in
+    let g : bears (a .form) (a .node) ≡ false = sym (c .before .before .before .bears .ensures) ∙ c .before .before .if3 .left in
+    collected-16 full (given (c .before .before .before .before .before .before .before .before .before .before .before .before .before .before)) (a .form) (a .node) (length (a .out .now)) (c .before .before .before .before .before .before .before .before .before .before .before .before .before .before .pre) (c .before .before .before .before .before .before .before .before .before .before .node-slot .result) (f .is) (f .slot) (node (c .before .before .before .before .before .before .before .before .before)) (f .at) (omega arith)
     w (shown-bare (a .form) (a .node) w g) (a .out .now) (omega arith)
 
 copy-answer-requires-2 : tie.Need-copy-answer-requires-2
 copy-answer-requires-2 c κs =
-    let h = oldest (c .before .before .before .before .before) in
+    let h = oldest (c .before .before .before .before .before .before) in
     (h .inside, omega (arith, h .least), omega arith)
 
 same-length-2 : tie.Need-same-length-2
@@ -141,12 +141,12 @@ same-length-2 c = search needs
 
 returns-6 : tie.Need-returns-6
 returns-6 c =
-    let a = c .before .before .before .before .before .before .before .before .before .before .before .before .before .before .before .before .before .args in
-    let f = here (c .before .before .before .before .before .before .before .before .before .before .before .before) in
-    let w : List ℕ = answer (c .before .before .before .before .before .before .before .before .before .before .before .before) in
-    let l = long (c .before .before .before .before .before .before .before .before) in
-    let g : bears (a .form) (a .node) ≡ false = sym (c .before .before .before .before .before .before .bears .ensures) ∙ c .before .before .before .before .before .if3 .left in
-    collected-0 full (given (c .before .before .before .before .before .before .before .before .before .before .before .before .before .before .before .before .before)) (a .form) (a .node) (length (a .out .now)) (c .before .before .before .before .before .before .before .before .before .before .before .before .before .before .before .before .before .pre) (c .before .before .before .before .before .before .before .before .before .before .before .before .before .node-slot .result) (f .is) (f .slot) (node (c .before .before .before .before .before .before .before .before .before .before .before .before)) (f .at) (omega arith)
+    let a = c .before .before .before .before .before .before .before .before .before .before .before .before .before .before .before .before .before .before .args in
+    let f = here (c .before .before .before .before .before .before .before .before .before .before .before .before .before) in
+    let w : List ℕ = answer (c .before .before .before .before .before .before .before .before .before .before .before .before .before) in
+    let l = long (c .before .before .before .before .before .before .before .before .before) in
+    let g : bears (a .form) (a .node) ≡ false = sym (c .before .before .before .before .before .before .before .bears .ensures) ∙ c .before .before .before .before .before .before .if3 .left in
+    collected-0 full (given (c .before .before .before .before .before .before .before .before .before .before .before .before .before .before .before .before .before .before)) (a .form) (a .node) (length (a .out .now)) (c .before .before .before .before .before .before .before .before .before .before .before .before .before .before .before .before .before .before .pre) (c .before .before .before .before .before .before .before .before .before .before .before .before .before .before .node-slot .result) (f .is) (f .slot) (node (c .before .before .before .before .before .before .before .before .before .before .before .before .before)) (f .at) (omega arith)
     w (shown-bare (a .form) (a .node) w g) (omega arith) (a .out .now) (c .before .before .copy-answer2 .last .1 .1 .0)
     (c .before .before .copy-answer2 .ensures ∙ bare-written (a .out .now) w) _ (sym l)
 
@@ -159,16 +159,16 @@ collect-spec =
     mul-n
     element-copy-out-n
     returns-2
-    mul-words
-    shared-slice-read-words
-    cast-words
+    mul-t14
+    shared-slice-read-t19
+    cast-t20
     bears-requires
     add-if4
     returns-3
     word-requires
     slice-write-out
     copy-answer-requires
-    add-t21
+    add-t22
     same-length
     returns-4
     returns-5
