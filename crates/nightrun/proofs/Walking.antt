@@ -10,6 +10,7 @@ use lib.Dec.{eqb}
 use lib.ListN.{length, getD, take, drop, length-append, length-take, length-drop}
 use lib.Seq.{sets, take-at, getD-drop, length-take-le}
 use borrow.Author.Tests.{le-leb, lt-leb}
+use Rattle.units.specs.Count.{twice}
 use Rattle.units.specs.Packing.{packed, onto}
 use Rattle.units.specs.declared.Bytes.{Bytes}
 use Rattle.units.specs.declared.Words.{Words}
@@ -84,10 +85,12 @@ module _ (file : List ℕ) (at : ℕ) where
     pub is : ws ≡ packed (packet n)
     pub long : length ws ≡ n
 
-  pub packs : (out : List ℕ) {n : Words} {out′ : List ℕ} → CommandHere file at n → out′ ≡ onto (packed (packet (n .0))) out → length out ≡ 134
-      → Packs (n .0) (take (n .0) out′)
-  packs out {n} {out′} h e l =
+  pub packs : (out : List ℕ) {n : Words} {k : ℕ} {out′ : List ℕ} → CommandHere file at n → k ≡ twice (n .0)
+      → out′ ≡ onto (packed (take (at + 5 + k - (at + 5)) (drop (at + 5) file))) out → length out ≡ 134 → Packs (n .0) (take (n .0) out′)
+  packs out {n} {k} {out′} h q d l =
       let t = command-there h in
+      let e : out′ ≡ onto (packed (packet (n .0))) out =
+      d ∙ ap (λ (k : ℕ). onto (packed (take (at + 5 + k - (at + 5)) (drop (at + 5) file))) out) q in
       let z : at + 5 + 2 * n .0 - (at + 5) ≡ 2 * n .0 = omega arith in
       let k : length (packet (n .0)) ≡ 2 * n .0 = rw z (length-take-le (2 * n .0) (drop (at + 5) file) (simp length-drop (omega (arith, t .inside)))) in
       let p : length (packed (packet (n .0))) ≡ n .0 = omega (arith, length-packed (packet (n .0)), k) in
@@ -120,11 +123,11 @@ reply-short k ws h l = go (eqb k 0)
     go false = omega (arith, refused-short k (omega arith))
 
 module _ {b : Bench} {file : List ℕ} {w : Walk} {g : Gateway} {old new : List ℕ} {to r : ℕ} where
-  pub turned-command : {n : Words} {a : Asked} {answer : List ℕ} {m : Machine} → w .ended ≡ false → 0 < w .left → CommandHere file (w .at) n
+  turned-record : {n : Words} {a : Asked} {answer : List ℕ} {m : Machine} → w .ended ≡ false → 0 < w .left → CommandHere file (w .at) n
       → Asks b (turned b g (drop (w .at) file)) a answer m → Put old to (replyLine (a .refusal) (take (a .words .0) answer)) new r
       → Turned b file w g old to new (record { walk = record { at = w .at + 5 + 2 * n .0; left = w .left - 1; ended = false }; state = a .state; at = r }) m
   unfolding firstOf
-  turned-command {n} {a} {answer} {m} go some h k p =
+  turned-record {n} {a} {answer} {m} go some h k p =
       let o = turned b g (drop (w .at) file) in
       let v : Walk = record { at = w .at + 5 + 2 * n .0; left = w .left - 1; ended = false } in
       let here = command-there file (w .at) h in
@@ -141,6 +144,19 @@ module _ {b : Bench} {file : List ℕ} {w : Walk} {g : Gateway} {old new : List 
         on = λ q. omega (arith, here .facts .low);
         inside = here .inside;
       }
+
+  -- the same, with the bytes of the packet as the code counts them
+  pub turned-command : {n : Words} {z : ℕ} {a : Asked} {answer : List ℕ} {m : Machine} → w .ended ≡ false → 0 < w .left
+      → CommandHere file (w .at) n → z ≡ twice (n .0) → Asks b (turned b g (drop (w .at) file)) a answer m
+      → Put old to (replyLine (a .refusal) (take (a .words .0) answer)) new r
+      → Turned b file w g old to new (record { walk = record { at = w .at + 5 + z; left = w .left - 1; ended = false }; state = a .state; at = r }) m
+  turned-command {n} {z} {a} {answer} {m} go some h q k p =
+      subst (λ (z : ℕ). Turned b file w g old to new (record {
+        walk = record { at = w .at + 5 + z; left = w .left - 1; ended = false };
+        state = a .state;
+        at = r;
+      }) m)
+      (sym q) (turned-record go some h k p)
 
   -- the last turn: one line, or none
   pub turned-over : {s : State} {store memory : List ℕ} (ls : List (List ℕ)) → toCome b file w g ≡ ls → drop 1 ls ≡ [] → Put old to (firstOf ls) new r

@@ -77,10 +77,10 @@ fn ask_at(
     requires { ⌜ length (now answer) ≡ 134 ⌝ }
     ensures { λ r. ⌜ Asks full (turned full (meaning full (machine s (now (store .entry)) (now (plaques .entry)))) (drop at (now (file .entry)))) r (now (answer .exit)) (machine (r .state) (now (store .exit)) (now (plaques .exit))) ⌝ }
 {
-    let mut words = [0u16; 134];
+    let mut words = [0u16; Words::PACKET.0];
     let from = at + 5;
     let n = size.0;
-    let end = from + 2 * n;
+    let end = from + size.bytes().0;
     pack(&file[from..end], &mut words);
     ask(s, stamp_at(file, at), &words[..n], store, plaques, answer)
 }
@@ -134,12 +134,12 @@ fn command_turn(
     ensures { λ r. ⌜ Turned full (now (file .entry)) w (meaning full (machine s (now (store .entry)) (now (plaques .entry)))) (now (out .entry)) to (now (out .exit)) r (machine (r .state) (now (store .exit)) (now (plaques .exit))) ⌝ }
 {
     let at = w.at;
-    let mut answer = [0u16; 134];
+    let mut answer = [0u16; Words::PACKET.0];
     let asked = ask_at(file, at, size, s, store, plaques, &mut answer);
     let n = asked.words.0;
     let next = put_reply(out, to, asked.refusal, &answer[..n]);
     let walk = Walk {
-        at: at + 5 + 2 * size.0,
+        at: at + 5 + size.bytes().0,
         left: w.left - 1,
         ended: false,
     };

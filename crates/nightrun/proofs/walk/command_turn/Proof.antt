@@ -32,20 +32,20 @@ add-t26 c =
     let h = command-there (now (a .file)) (a .w .at) (s .pre .1 .0) in
     record { fits = omega (arith, h .inside) }
 
-mul-t27 : tie.Need-mul-t27
-mul-t27 c =
-    let s = c .before .before .before .before .before .before .before .before .before .before .before .before .before .before .before .before .before .before .before in let a = s .args in
+bytes-requires : tie.Need-bytes-requires
+bytes-requires c κs =
+    let s = c .before .before .before .before .before .before .before .before .before .before .before .before .before .before .before .before .before .before in let a = s .args in
     let h = command-there (now (a .file)) (a .w .at) (s .pre .1 .0) in
-    record { fits = omega (arith, h .inside) }
+    omega (arith, h .facts .high)
 
 add-t28 : tie.Need-add-t28
 add-t28 c =
-    let s = c .before .before .before .before .before .before .before .before .before .before .before .before .before .before .before .before .before .before .before in let a = s .args in
+    let s = c .before .before .before .before .before .before .before .before .before .before .before .before .before .before .before .before .before .before .before .before in let a = s .args in
     let h = command-there (now (a .file)) (a .w .at) (s .pre .1 .0) in
     record { fits = omega (arith, h .inside) }
 
 sub-t29 : tie.Need-sub-t29
-sub-t29 c = search needs
+sub-t29 c = let s = c .before .before .before .before .before .before .before .before .before .before .before .before .before .before .before .before .before .before .before .before .before in omega (arith, s .pre .0 .1)
 
 same-length : tie.Need-same-length
 same-length c = search needs
@@ -58,8 +58,8 @@ same-length-3 c = search needs
 
 returns : tie.Need-returns
 returns c =
-    let s = c .before .before .before .before .before .before .before .before .before .before .before .before .before .before .before .before .before .before .before .before .before in let a = s .args in
-    turned-command (s .pre .0 .0) (s .pre .0 .1) (s .pre .1 .0) (c .before .before .before .before .before .before .before .before .before .before .before .before .before .ask-at .ensures) (c .before .before .before .before .before .put-reply .ensures)
+    let s = c .before .before .before .before .before .before .before .before .before .before .before .before .before .before .before .before .before .before .before .before .before .before in let a = s .args in
+    turned-command (s .pre .0 .0) (s .pre .0 .1) (s .pre .1 .0) (c .before .before .before .bytes .ensures) (c .before .before .before .before .before .before .before .before .before .before .before .before .before .before .ask-at .ensures) (c .before .before .before .before .before .before .put-reply .ensures)
 
 pub command-turn-spec : {M : Type 1} → statement M
 command-turn-spec =
@@ -71,7 +71,7 @@ command-turn-spec =
     slice-aggregate-put-reply
     put-reply-requires
     add-t26
-    mul-t27
+    bytes-requires
     add-t28
     sub-t29
     same-length
