@@ -7,6 +7,8 @@ use crate::walk::open;
 use crate::walk::turn;
 use listingout::put_broken;
 use listingout::put_commands;
+use units::Bytes;
+use units::Words;
 ghost use mathlib.Core.Path.{_≡_};
 ghost use Rattle.nightrun.specs.Walk.{Lists};
 
@@ -26,8 +28,8 @@ pub fn list(file: &[u8], out: &mut [u8]) -> Listed
     if out.len() < LONGEST {
         return Listed::TooShort;
     }
-    let mut store = [0u16; 4096];
-    let mut plaques = [0u8; 16384];
+    let mut store = [0u16; Words::STORE.0];
+    let mut plaques = [0u8; Bytes::PLAQUES.0];
     let o = open(file, state::fresh(), &store, &mut plaques);
     if !o.fine {
         return Listed::Written(put_broken(out, 0));
