@@ -11,6 +11,7 @@ use store::Queued;
 use store::queue;
 use units::Bytes;
 use units::Form;
+use units::Words;
 ghost use mathlib.Core.Path.{_≡_};
 ghost use mathlib.Core.Bool.{cond};
 ghost use lib.ListN.{length};
@@ -26,7 +27,7 @@ pub fn answer(s: State, i: usize, r: Response, bytes: &[u8], store: &mut [u16]) 
     requires { ⌜ Answerable full (now store) s i r (length (now bytes)) ⌝ }
     ensures { λ q. ⌜ (q .ok ≡ roomFor full (heldsOf (now (store .entry)) (s .nodes)) i (length (responseBody r (now (bytes .entry))))) × Queue full (q .ok) (now (store .entry)) (now (store .exit)) s (q .state) i (responseBody r (now (bytes .entry))) ⌝ }
 {
-    let mut out = [0u16; 134];
+    let mut out = [0u16; Words::PACKET.0];
     write_response(Form::Register, r, bytes, &mut out);
     let n = overall(Bytes(bytes.len())).0;
     queue(s, i, &out[..n], store)

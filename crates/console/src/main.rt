@@ -7,6 +7,8 @@ use state::State;
 use streams::put;
 use streams::take;
 use talk::talk;
+use units::Bytes;
+use units::Words;
 ghost use mathlib.Core.Path.{_≡_};
 ghost use Prim.Native.Nat.{_≤_};
 ghost use lib.ListN.{length};
@@ -78,8 +80,8 @@ fn hear(
 
 // A line is kept up to a byte more than the longest that is looked into, which shows that it is longer.
 fn play() {
-    let mut store = [0u16; 4096];
-    let mut plaques = [0u8; 16384];
+    let mut store = [0u16; Words::STORE.0];
+    let mut plaques = [0u8; Bytes::PLAQUES.0];
     let mut line = [0u8; 4401];
     let mut piece = io::buffer();
     let mut s = state::fresh();

@@ -9,6 +9,8 @@ use lines::read_line;
 use listingout::put_refused;
 use state::State;
 use talk::talk;
+use units::Bytes;
+use units::Words;
 ghost use mathlib.Core.Path.{_≡_};
 ghost use mathlib.Core.Bool.{false};
 ghost use Prim.Native.Nat.{_≤_};
@@ -91,8 +93,8 @@ pub fn converse(input: &[u8], out: &mut [u8]) -> Text
     if out.len() / LONGEST < count_lines(input) {
         return Text::TooShort;
     }
-    let mut store = [0u16; 4096];
-    let mut plaques = [0u8; 16384];
+    let mut store = [0u16; Words::STORE.0];
+    let mut plaques = [0u8; Bytes::PLAQUES.0];
     let mut s = state::fresh();
     let mut at = 0;
     let mut to = 0;

@@ -13,6 +13,8 @@ use state::State;
 use streams::Got;
 use streams::put;
 use streams::take;
+use units::Bytes;
+use units::Words;
 ghost use mathlib.Core.Path.{_≡_};
 ghost use mathlib.Core.Bool.{false};
 ghost use Prim.Native.Nat.{_<_, _≤_};
@@ -42,8 +44,8 @@ fn write_turns(file: &[u8], begun: Walk, s: State, store: &mut [u16], plaques: &
 }
 
 fn write_listing(file: &[u8]) -> bool {
-    let mut store = [0u16; 4096];
-    let mut plaques = [0u8; 16384];
+    let mut store = [0u16; Words::STORE.0];
+    let mut plaques = [0u8; Bytes::PLAQUES.0];
     let o = open(file, state::fresh(), &store, &mut plaques);
     let mut line = [0u8; 15];
     if !o.fine {

@@ -132,7 +132,7 @@ fn repack(nodes: [Node; 17], i: usize, answer: &[u16], store: &mut [u16]) -> [No
     requires { ⌜ Joinable full (now store) nodes i (now answer) ⌝ }
     ensures { λ r. ⌜ Joins full (now (store .entry)) (now (store .exit)) nodes r i (now (answer .entry)) ⌝ }
 {
-    let mut out = [0u16; 4096];
+    let mut out = [0u16; Words::STORE.0];
     lay_all(nodes, i, answer, store, &mut out);
     copy_in(&out, store, 0);
     let mut ns = nodes;
