@@ -42,14 +42,16 @@ refused-requires-2 c κs = search needs
 returns-2 : tie.Need-returns-2
 unfolding spoken
 returns-2 c =
-    let a = c .before .before .before .before .before .before .before .before .args in
+    let a = c .before .before .before .before .before .before .before .before .before .args in
     let m : Machine = machine (a .t1) (now (a .store)) (now (a .plaques)) in
-    let p = slot-in (a .node) (c .before .before .before .reader-slot .result) (c .before .before .before .reader-slot .ensures)
-    (c .before .before .if1 .left) in
-    let x = getD (a .t1 .readers) (c .before .before .before .reader-slot .result) blankReader in
+    let p = slot-in (a .node) (c .before .before .before .before .reader-slot .result)
+    (c .before .before .before .before .reader-slot .ensures)
+    (c .before .before .before .if1 .left) in
+    let x = getD (a .t1 .readers) (c .before .before .before .before .reader-slot .result) blankReader in
     called (c .refused2 .ensures) (stepped (arrive (a .node) (now (a .id)) (now (a .bytes)))
-    (c .before .before .before .before .before .before .before .before .pre)
-    (arrived-9 full m (a .node) (c .before .before .before .before .before .before .before .before .pre) (now (a .id)) (now (a .bytes)) (p .0)
+    (c .before .before .before .before .before .before .before .before .before .pre)
+    (arrived-9 full m (a .node) (c .before .before .before .before .before .before .before .before .before .pre) (now (a .id))
+    (now (a .bytes)) (p .0)
     (c .before .if2 .taken)))
 
 refused-requires-3 : tie.Need-refused-requires-3
@@ -58,14 +60,16 @@ refused-requires-3 c κs = search needs
 returns-3 : tie.Need-returns-3
 unfolding spoken
 returns-3 c =
-    let a = c .before .before .before .before .before .before .before .before .before .args in
+    let a = c .before .before .before .before .before .before .before .before .before .before .args in
     let m : Machine = machine (a .t1) (now (a .store)) (now (a .plaques)) in
-    let p = slot-in (a .node) (c .before .before .before .before .reader-slot .result) (c .before .before .before .before .reader-slot .ensures)
-    (c .before .before .before .if1 .left) in
-    let x = getD (a .t1 .readers) (c .before .before .before .before .reader-slot .result) blankReader in
+    let p = slot-in (a .node) (c .before .before .before .before .before .reader-slot .result)
+    (c .before .before .before .before .before .reader-slot .ensures)
+    (c .before .before .before .before .if1 .left) in
+    let x = getD (a .t1 .readers) (c .before .before .before .before .before .reader-slot .result) blankReader in
     called (c .refused3 .ensures) (stepped (arrive (a .node) (now (a .id)) (now (a .bytes)))
-    (c .before .before .before .before .before .before .before .before .before .pre)
-    (arrived-10 full m (a .node) (c .before .before .before .before .before .before .before .before .before .pre) (now (a .id)) (now (a .bytes)) (p .0)
+    (c .before .before .before .before .before .before .before .before .before .before .pre)
+    (arrived-10 full m (a .node) (c .before .before .before .before .before .before .before .before .before .before .pre) (now (a .id))
+    (now (a .bytes)) (p .0)
     (c .before .before .if2 .left) (no-and _ (lt-leb _ _ (c .before .if3 .taken)))))
 
 refused-requires-4 : tie.Need-refused-requires-4
@@ -74,15 +78,18 @@ refused-requires-4 c κs = search needs
 returns-4 : tie.Need-returns-4
 unfolding spoken
 returns-4 c =
-    let a = c .before .before .before .before .before .before .before .before .before .before .args in
+    let a = c .before .before .before .before .before .before .before .before .before .before .before .before .args in
     let m : Machine = machine (a .t1) (now (a .store)) (now (a .plaques)) in
-    let p = slot-in (a .node) (c .before .before .before .before .before .reader-slot .result)
-    (c .before .before .before .before .before .reader-slot .ensures) (c .before .before .before .before .if1 .left) in
-    let x = getD (a .t1 .readers) (c .before .before .before .before .before .reader-slot .result) blankReader in
+    let p = slot-in (a .node) (c .before .before .before .before .before .before .before .reader-slot .result)
+    (c .before .before .before .before .before .before .before .reader-slot .ensures)
+    (c .before .before .before .before .before .before .if1 .left) in
+    let x = getD (a .t1 .readers) (c .before .before .before .before .before .before .before .reader-slot .result) blankReader in
     called (c .refused4 .ensures) (stepped (arrive (a .node) (now (a .id)) (now (a .bytes)))
-    (c .before .before .before .before .before .before .before .before .before .before .pre)
-    (arrived-10 full m (a .node) (c .before .before .before .before .before .before .before .before .before .before .pre) (now (a .id)) (now (a .bytes))
-    (p .0) (c .before .before .before .if2 .left) (yes-and (le-leb 1 _ (c .before .before .if3 .left)) ∙ lt-leb _ _ (c .before .if4 .taken))))
+    (c .before .before .before .before .before .before .before .before .before .before .before .before .pre)
+    (arrived-10 full m (a .node) (c .before .before .before .before .before .before .before .before .before .before .before .before .pre)
+    (now (a .id)) (now (a .bytes))
+    (p .0) (c .before .before .before .before .if2 .left) (yes-and (le-leb 1 _ (c .before .before .before .if3 .left))
+    ∙ lt-leb _ _ (c .before .if4 .taken))))
 
 mul-x : tie.Need-mul-x
 mul-x c = search needs
@@ -102,10 +109,17 @@ mul-copy-bytes c = search needs
 copy-bytes-requires : tie.Need-copy-bytes-requires
 unfolding spoken
 copy-bytes-requires c κs =
-    let a = c .before .before .before .before .before .before .before .before .before .before .before .before .before .args in
+    let a = c .before .before .before .before .before .before .before .before .before .before .before .before .before .before .before
+    .before .args in
     let m : Machine = machine (a .t1) (now (a .store)) (now (a .plaques)) in
-    let l : length (now (a .plaques)) ≡ 16384 = parts full m (c .before .before .before .before .before .before .before .before .before .before .before .before .before .pre) .memory in
-    omega (arith, c .before .before .before .before .before .before .before .if1 .left, c .before .before .before .before .if4 .left)
+    let l : length (now (a .plaques)) ≡ 16384 = parts full m
+    (c .before .before .before .before .before .before .before .before .before .before .before .before .before .before .before .before
+    .pre) .memory in
+    omega (
+      arith,
+      c .before .before .before .before .before .before .before .before .before .before .if1 .left,
+      c .before .before .before .before .before .if4 .left,
+    )
 
 mul-y : tie.Need-mul-y
 mul-y c = search needs
@@ -119,13 +133,18 @@ same-length c = search needs
 returns-5 : tie.Need-returns-5
 unfolding spoken
 returns-5 c =
-    let a = c .before .before .before .before .before .before .before .before .before .before .before .before .before .before .before .before .args in
+    let a = c .before .before .before .before .before .before .before .before .before .before .before .before .before .before .before
+    .before .before .before .before .args in
     let m : Machine = machine (a .t1) (now (a .store)) (now (a .plaques)) in
-    let p = slot-in (a .node) (c .before .before .before .before .before .before .before .before .before .before .before .reader-slot .result)
-    (c .before .before .before .before .before .before .before .before .before .before .before .reader-slot .ensures)
-    (c .before .before .before .before .before .before .before .before .before .before .if1 .left) in
-    let x = getD (a .t1 .readers) (c .before .before .before .before .before .before .before .before .before .before .before .reader-slot .result) blankReader in
-    stored (a .t1) (p .1) (c .before .before .before .before .arrived .ensures ∙ ap
+    let p = slot-in (a .node)
+    (c .before .before .before .before .before .before .before .before .before .before .before .before .before .before .reader-slot .result)
+    (c .before .before .before .before .before .before .before .before .before .before .before .before .before .before .reader-slot
+    .ensures)
+    (c .before .before .before .before .before .before .before .before .before .before .before .before .before .if1 .left) in
+    let x = getD (a .t1 .readers)
+    (c .before .before .before .before .before .before .before .before .before .before .before .before .before .before .reader-slot
+    .result) blankReader in
+    stored (a .t1) (p .1) (c .before .before .before .before .before .arrived .ensures ∙ ap
     (λ (k : List ℕ). record {
       plaque = record {
         present = true;
@@ -137,8 +156,20 @@ returns-5 c =
       };
       reading = x .reading;
       report = x .report;
-    }) (c .before .before .before .before .before .eight .ensures))
-    (stepped (arrive (a .node) (now (a .id)) (now (a .bytes))) (c .before .before .before .before .before .before .before .before .before .before .before .before .before .before .before .before .pre) (arrived-0 full m (a .node) (c .before .before .before .before .before .before .before .before .before .before .before .before .before .before .before .before .pre) (now (a .id)) (now (a .bytes)) (p .0) (c .before .before .before .before .before .before .before .before .before .if2 .left) (yes-and (le-leb 1 _ (c .before .before .before .before .before .before .before .before .if3 .left)) ∙ le-leb _ _ (c .before .before .before .before .before .before .before .if4 .left)) x (reader-there m (a .node) _ (c .before .before .before .before .before .before .before .before .before .before .before .before .before .before .before .before .pre) (p .0) (p .1)) _ (c .before .before .copy-bytes .ensures ∙ ap (λ (k : ℕ). paste (now (a .plaques)) (k * 1024) (now (a .bytes)) (length (now (a .bytes)))) (p .1))))
+    }) (c .before .before .before .before .before .before .eight .ensures))
+    (stepped (arrive (a .node) (now (a .id)) (now (a .bytes)))
+    (c .before .before .before .before .before .before .before .before .before .before .before .before .before .before .before .before
+    .before .before .before .pre)
+    (arrived-0 full m (a .node)
+    (c .before .before .before .before .before .before .before .before .before .before .before .before .before .before .before .before
+    .before .before .before .pre) (now (a .id)) (now (a .bytes)) (p .0)
+    (c .before .before .before .before .before .before .before .before .before .before .before .if2 .left)
+    (yes-and (le-leb 1 _ (c .before .before .before .before .before .before .before .before .before .before .if3 .left))
+    ∙ le-leb _ _ (c .before .before .before .before .before .before .before .before .if4 .left)) x
+    (reader-there m (a .node) _
+    (c .before .before .before .before .before .before .before .before .before .before .before .before .before .before .before .before
+    .before .before .before .pre) (p .0) (p .1)) _ (c .before .before .copy-bytes .ensures
+    ∙ ap (λ (k : ℕ). paste (now (a .plaques)) (k * 1024) (now (a .bytes)) (length (now (a .bytes)))) (p .1))))
 
 pub arrive-spec : {M : Type 1} → statement M
 arrive-spec =

@@ -33,21 +33,21 @@ loop-less c = search needs
 
 loop-again : tie.Need-loop-again Inv-loop μ-loop
 loop-again c =
-    let l : List ℕ = c .before .before .before .args .id .now in
-    let a : List ℕ = c .before .before .loop .a in
-    let j : ℕ = c .before .before .loop .j in (
+    let l : List ℕ = c .before .before .before .before .args .id .now in
+    let a : List ℕ = c .before .before .before .loop .a in
+    let j : ℕ = c .before .before .before .loop .j in (
       omega arith,
-      simp length-set (c .before .before .loop .inv .1),
+      simp length-set (c .before .before .before .loop .inv .1),
       rw
-          (add-one, take-suc-set a j (getD l j 0) (omega arith), c .before .before .loop .inv .2, ← take-suc l j 0 (omega arith)),
+          (add-one, take-suc-set a j (getD l j 0) (omega arith), c .before .before .before .loop .inv .2, ← take-suc l j 0 (omega arith)),
     )
 
 returns : tie.Need-returns Inv-loop μ-loop
 returns c =
-    let l : List ℕ = c .before .before .args .id .now in
-    let a : List ℕ = c .before .loop .a in
-    let j : ℕ = c .before .loop .j in
-    sym (take-all j a (omega arith)) ∙ c .before .loop .inv .2 ∙ take-all j l (omega arith)
+    let l : List ℕ = c .before .before .before .args .id .now in
+    let a : List ℕ = c .before .before .loop .a in
+    let j : ℕ = c .before .before .loop .j in
+    sym (take-all j a (omega arith)) ∙ c .before .before .loop .inv .2 ∙ take-all j l (omega arith)
 
 pub eight-spec : {M : Type 1} → statement M
 eight-spec =
