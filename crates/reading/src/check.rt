@@ -7,6 +7,7 @@ use meaning::packet::Response;
 use promise::Called;
 use promise::Reply;
 use state::State;
+use units::Bytes;
 use units::stamp::Stamp;
 ghost use mathlib.Core.Path.{_≡_};
 ghost use Rattle.meaning.specs.Bench.{full};
@@ -74,7 +75,7 @@ fn report_plaque(
 {
     let x = s.readers[i];
     let reading = x.reading;
-    let from = i * 1024 + reading.start as usize;
+    let from = i * Bytes::REGION.0 + reading.start as usize;
     let to = from + reading.size.0;
     let n = s.nodes[i];
     let r = Response {

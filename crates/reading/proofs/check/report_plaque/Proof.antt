@@ -39,9 +39,9 @@ add-from c = search needs
 
 add-to : tie.Need-add-to
 add-to c =
-    let a = c .before .before .before .before .before .before .args in
+    let a = c .before .before .before .before .before .before .before .args in
     let m : Machine = machine (a .t1) (now (a .store)) (now (a .plaques)) in
-    let p = c .before .before .before .before .before .before .pre in
+    let p = c .before .before .before .before .before .before .before .pre in
     let k = bounds m (a .i) (a .node) (a .t) (a .clock) (p .look) (here m (a .i) (a .node) (a .t) (a .clock) p)
     (busy m (a .i) (a .node) (a .t) (a .clock) p) in
     search needs
@@ -51,9 +51,9 @@ mul-n c = search needs
 
 element-copy-out-n : tie.Need-element-copy-out-n
 element-copy-out-n c =
-    let a = c .before .before .before .before .before .before .args in
+    let a = c .before .before .before .before .before .before .before .args in
     let m : Machine = machine (a .t1) (now (a .store)) (now (a .plaques)) in
-    let p = c .before .before .before .before .before .before .pre in
+    let p = c .before .before .before .before .before .before .before .pre in
     let k = bounds m (a .i) (a .node) (a .t) (a .clock) (p .look) (here m (a .i) (a .node) (a .t) (a .clock) p)
     (busy m (a .i) (a .node) (a .t) (a .clock) p) in
     omega arith
@@ -66,9 +66,9 @@ part-answer-start c = search needs
 
 part-answer-end : tie.Need-part-answer-end
 part-answer-end c =
-    let a = c .before .before .before .before .before .before .before .args in
+    let a = c .before .before .before .before .before .before .before .before .args in
     let m : Machine = machine (a .t1) (now (a .store)) (now (a .plaques)) in
-    let p = c .before .before .before .before .before .before .before .pre in
+    let p = c .before .before .before .before .before .before .before .before .pre in
     let k = bounds m (a .i) (a .node) (a .t) (a .clock) (p .look) (here m (a .i) (a .node) (a .t) (a .clock) p)
     (busy m (a .i) (a .node) (a .t) (a .clock) p) in
     let l : length (now (a .plaques)) ≡ 16384 = parts full m (p .look .fit) .memory in
@@ -76,12 +76,13 @@ part-answer-end c =
 
 answer-requires : tie.Need-answer-requires
 answer-requires c κs =
-    let a = c .before .before .before .before .before .before .before .before .before .args in
+    let a = c .before .before .before .before .before .before .before .before .before .before .args in
     let m : Machine = machine (a .t1) (now (a .store)) (now (a .plaques)) in
-    let p = c .before .before .before .before .before .before .before .before .before .pre in
+    let p = c .before .before .before .before .before .before .before .before .before .before .pre in
     let k = bounds m (a .i) (a .node) (a .t) (a .clock) (p .look) (here m (a .i) (a .node) (a .t) (a .clock) p)
     (busy m (a .i) (a .node) (a .t) (a .clock) p) in
-    answerable m (a .node) (a .i) (p .look .fit) (p .look .reader) (p .look .index) (a .t) (p .look .stamp) _ _ _ (simp length-take (omega arith))
+    answerable m (a .node) (a .i) (p .look .fit) (p .look .reader) (p .look .index) (a .t) (p .look .stamp) _ _ _
+    (simp length-take (omega arith))
 
 settled-requires : tie.Need-settled-requires
 settled-requires c κs = search needs
@@ -92,9 +93,11 @@ same-length c = search needs
 returns : tie.Need-returns
 unfolding spoken
 returns c =
-    let a = c .before .before .before .before .before .before .before .before .before .before .before .before .before .before .before .args in
+    let a = c .before .before .before .before .before .before .before .before .before .before .before .before .before .before .before
+    .before .args in
     let m : Machine = machine (a .t1) (now (a .store)) (now (a .plaques)) in
-    let p = c .before .before .before .before .before .before .before .before .before .before .before .before .before .before .before .pre in
+    let p = c .before .before .before .before .before .before .before .before .before .before .before .before .before .before .before
+    .before .pre in
     let f : ℕ = a .i * 1024 + foundAt m (a .i) .reading .start in
     let k : ℕ = f + foundAt m (a .i) .reading .size .0 - f in
     let e : k ≡ foundAt m (a .i) .reading .size .0 = omega arith in
@@ -109,18 +112,22 @@ reported-requires c κs = search needs
 
 mul-y : tie.Need-mul-y
 mul-y c =
-    let a = c .before .before .before .before .before .before .before .before .before .before .before .before .before .before .before .before .args in
+    let a = c .before .before .before .before .before .before .before .before .before .before .before .before .before .before .before
+    .before .before .args in
     let m : Machine = machine (a .t1) (now (a .store)) (now (a .plaques)) in
-    let p = c .before .before .before .before .before .before .before .before .before .before .before .before .before .before .before .before .pre in
+    let p = c .before .before .before .before .before .before .before .before .before .before .before .before .before .before .before
+    .before .before .pre in
     let k = bounds m (a .i) (a .node) (a .t) (a .clock) (p .look) (here m (a .i) (a .node) (a .t) (a .clock) p)
     (busy m (a .i) (a .node) (a .t) (a .clock) p) in
     search needs
 
 element-set-from-y : tie.Need-element-set-from-y
 element-set-from-y c =
-    let a = c .before .before .before .before .before .before .before .before .before .before .before .before .before .before .before .before .args in
+    let a = c .before .before .before .before .before .before .before .before .before .before .before .before .before .before .before
+    .before .before .args in
     let m : Machine = machine (a .t1) (now (a .store)) (now (a .plaques)) in
-    let p = c .before .before .before .before .before .before .before .before .before .before .before .before .before .before .before .before .pre in
+    let p = c .before .before .before .before .before .before .before .before .before .before .before .before .before .before .before
+    .before .before .pre in
     let k = bounds m (a .i) (a .node) (a .t) (a .clock) (p .look) (here m (a .i) (a .node) (a .t) (a .clock) p)
     (busy m (a .i) (a .node) (a .t) (a .clock) p) in
     omega arith
@@ -131,9 +138,11 @@ same-length-2 c = search needs
 returns-2 : tie.Need-returns-2
 unfolding spoken
 returns-2 c =
-    let a = c .before .before .before .before .before .before .before .before .before .before .before .before .before .before .before .before .args in
+    let a = c .before .before .before .before .before .before .before .before .before .before .before .before .before .before .before
+    .before .before .args in
     let m : Machine = machine (a .t1) (now (a .store)) (now (a .plaques)) in
-    let p = c .before .before .before .before .before .before .before .before .before .before .before .before .before .before .before .before .pre in
+    let p = c .before .before .before .before .before .before .before .before .before .before .before .before .before .before .before
+    .before .before .pre in
     let f : ℕ = a .i * 1024 + foundAt m (a .i) .reading .start in
     let k : ℕ = f + foundAt m (a .i) .reading .size .0 - f in
     let e : k ≡ foundAt m (a .i) .reading .size .0 = omega arith in
