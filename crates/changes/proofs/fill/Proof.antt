@@ -27,7 +27,9 @@ refused-requires : tie.Need-refused-requires
 refused-requires c κs = search needs
 
 returns : tie.Need-returns
-returns c = called (c .refused .ensures) (fill-over (is-past (c .before .before .past .ensures) (c .before .if1 .taken)) (c .before .before .before .before .before .before .before .before .pre))
+returns c =
+    called (c .refused .ensures) (fill-over (is-past (c .before .before .past .ensures) (c .before .if1 .taken))
+    (c .before .before .before .before .before .before .before .before .pre))
 
 mul-n : tie.Need-mul-n
 mul-n c = search needs
@@ -42,7 +44,9 @@ slice-aggregate-answer : tie.Need-slice-aggregate-answer
 slice-aggregate-answer c = search needs
 
 answer-requires : tie.Need-answer-requires
-answer-requires c κs = good-answerable (c .before .before .before .before .before .before .before .before .before .before .before .pre .orderly) (c .before .before .response .ensures) 0 (lit≤ tt)
+answer-requires c κs =
+    good-answerable (c .before .before .before .before .before .before .before .before .before .before .before .pre .orderly)
+    (c .before .before .response .ensures) 0 (lit≤ tt)
 
 settled-requires : tie.Need-settled-requires
 settled-requires c κs = search needs
@@ -51,10 +55,18 @@ same-length : tie.Need-same-length
 same-length c = search needs
 
 returns-2 : tie.Need-returns-2
-returns-2 c = called (c .settled .ensures) (fill-13 (c .before .before .before .before .before .answer .result) (not-past (c .before .before .before .before .before .before .before .before .before .before .before .past .ensures) (c .before .before .before .before .before .before .before .before .before .before .if1 .left)) (c .before .before .before .before .before .before .before .before .before .before .before .before .before .before .before .before .before .pre) (c .before .before .before .before .before .before .before .before .response .ensures) (c .before .before .before .before .before .answer .ensures) (not-true _ (c .before .if2 .taken)))
+returns-2 c =
+    called (c .settled .ensures) (fill-13 (c .before .before .before .before .before .answer .result)
+    (not-past (c .before .before .before .before .before .before .before .before .before .before .before .past .ensures)
+    (c .before .before .before .before .before .before .before .before .before .before .if1 .left))
+    (c .before .before .before .before .before .before .before .before .before .before .before .before .before .before .before .before
+    .before .pre) (c .before .before .before .before .before .before .before .before .response .ensures)
+    (c .before .before .before .before .before .answer .ensures) (not-true _ (c .before .if2 .taken)))
 
 mul-at : tie.Need-mul-at
-mul-at c = let i = index (c .before .before .before .before .before .before .before .before .before .before .before .before .before .before .before .before .pre .orderly) in search needs
+mul-at c =
+    let i = index (c .before .before .before .before .before .before .before .before .before .before .before .before .before .before
+    .before .before .before .pre .orderly) in search needs
 
 cast-at : tie.Need-cast-at
 cast-at c = search needs
@@ -69,7 +81,12 @@ byte-at-requires : tie.Need-byte-at-requires
 byte-at-requires c κs = search needs
 
 fill-bytes-requires : tie.Need-fill-bytes-requires
-fill-bytes-requires c κs = in-memory (c .before .before .before .before .before .before .before .before .before .before .before .before .before .before .before .before .before .before .before .before .pre) (not-past (c .before .before .before .before .before .before .before .before .before .before .before .before .before .before .past .ensures) (c .before .before .before .before .before .before .before .before .before .before .before .before .before .if1 .left))
+fill-bytes-requires c κs =
+    in-memory (c .before .before .before .before .before .before .before .before .before .before .before .before .before .before .before
+    .before .before .before .before .before .before .pre)
+    (not-past (c .before .before .before .before .before .before .before .before .before .before .before .before .before .before .before
+    .past .ensures) (c .before .before .before .before .before .before .before .before .before .before .before .before .before .before .if1
+    .left))
 
 settled-requires-2 : tie.Need-settled-requires-2
 settled-requires-2 c κs = search needs
@@ -81,7 +98,19 @@ same-length-3 : tie.Need-same-length-3
 same-length-3 c = search needs
 
 returns-3 : tie.Need-returns-3
-returns-3 c = called (c .settled2 .ensures) (fill-makes (c .before .before .before .before .before .before .before .before .before .before .before .before .answer .result) (not-past (c .before .before .before .before .before .before .before .before .before .before .before .before .before .before .before .before .before .before .past .ensures) (c .before .before .before .before .before .before .before .before .before .before .before .before .before .before .before .before .before .if1 .left)) (c .before .before .before .before .before .before .before .before .before .before .before .before .before .before .before .before .before .before .before .before .before .before .before .before .pre) (c .before .before .before .before .before .before .before .before .before .before .before .before .before .before .before .response .ensures) (c .before .before .before .before .before .before .before .before .before .before .before .before .answer .ensures) (not-false _ (c .before .before .before .before .before .before .before .before .if2 .left)) (c .before .before .before .before .byte-at .ensures) (c .before .before .before .fill-bytes .ensures))
+returns-3 c =
+    called (c .settled2 .ensures)
+    (fill-makes (c .before .before .before .before .before .before .before .before .before .before .before .before .before .answer .result)
+    (not-past (c .before .before .before .before .before .before .before .before .before .before .before .before .before .before .before
+    .before .before .before .before .past .ensures)
+    (c .before .before .before .before .before .before .before .before .before .before .before .before .before .before .before .before
+    .before .before .if1 .left))
+    (c .before .before .before .before .before .before .before .before .before .before .before .before .before .before .before .before
+    .before .before .before .before .before .before .before .before .before .pre)
+    (c .before .before .before .before .before .before .before .before .before .before .before .before .before .before .before .before
+    .response .ensures) (c .before .before .before .before .before .before .before .before .before .before .before .before .before .answer
+    .ensures) (not-false _ (c .before .before .before .before .before .before .before .before .before .if2 .left))
+    (c .before .before .before .before .byte-at .ensures) (c .before .before .before .fill-bytes .ensures))
 
 pub fill-spec : {M : Type 1} → statement M
 fill-spec =

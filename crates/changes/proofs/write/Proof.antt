@@ -27,7 +27,9 @@ refused-requires : tie.Need-refused-requires
 refused-requires c κs = search needs
 
 returns : tie.Need-returns
-returns c = called (c .refused .ensures) (write-over (is-past (c .before .before .past .ensures) (c .before .if1 .taken)) (c .before .before .before .before .before .before .before .before .pre))
+returns c =
+    called (c .refused .ensures) (write-over (is-past (c .before .before .past .ensures) (c .before .if1 .taken))
+    (c .before .before .before .before .before .before .before .before .pre))
 
 mul-n : tie.Need-mul-n
 mul-n c = search needs
@@ -42,7 +44,9 @@ slice-aggregate-answer : tie.Need-slice-aggregate-answer
 slice-aggregate-answer c = search needs
 
 answer-requires : tie.Need-answer-requires
-answer-requires c κs = good-answerable (c .before .before .before .before .before .before .before .before .before .before .before .pre .orderly) (c .before .before .response .ensures) 0 (lit≤ tt)
+answer-requires c κs =
+    good-answerable (c .before .before .before .before .before .before .before .before .before .before .before .pre .orderly)
+    (c .before .before .response .ensures) 0 (lit≤ tt)
 
 settled-requires : tie.Need-settled-requires
 settled-requires c κs = search needs
@@ -51,10 +55,18 @@ same-length : tie.Need-same-length
 same-length c = search needs
 
 returns-2 : tie.Need-returns-2
-returns-2 c = called (c .settled .ensures) (write-13 (c .before .before .before .before .before .answer .result) (not-past (c .before .before .before .before .before .before .before .before .before .before .before .past .ensures) (c .before .before .before .before .before .before .before .before .before .before .if1 .left)) (c .before .before .before .before .before .before .before .before .before .before .before .before .before .before .before .before .before .pre) (c .before .before .before .before .before .before .before .before .response .ensures) (c .before .before .before .before .before .answer .ensures) (not-true _ (c .before .if2 .taken)))
+returns-2 c =
+    called (c .settled .ensures) (write-13 (c .before .before .before .before .before .answer .result)
+    (not-past (c .before .before .before .before .before .before .before .before .before .before .before .past .ensures)
+    (c .before .before .before .before .before .before .before .before .before .before .if1 .left))
+    (c .before .before .before .before .before .before .before .before .before .before .before .before .before .before .before .before
+    .before .pre) (c .before .before .before .before .before .before .before .before .response .ensures)
+    (c .before .before .before .before .before .answer .ensures) (not-true _ (c .before .if2 .taken)))
 
 mul-begin : tie.Need-mul-begin
-mul-begin c = let i = index (c .before .before .before .before .before .before .before .before .before .before .before .before .before .before .before .before .pre .orderly) in search needs
+mul-begin c =
+    let i = index (c .before .before .before .before .before .before .before .before .before .before .before .before .before .before
+    .before .before .before .pre .orderly) in search needs
 
 cast-begin : tie.Need-cast-begin
 cast-begin c = search needs
@@ -75,7 +87,11 @@ part-unpack-start : tie.Need-part-unpack-start
 part-unpack-start c = search needs
 
 part-unpack-end : tie.Need-part-unpack-end
-part-unpack-end c = in-memory (c .before .before .before .before .before .before .before .before .before .before .before .before .before .before .before .before .before .before .pre) (not-past (c .before .before .before .before .before .before .before .before .before .before .before .before .past .ensures) (c .before .before .before .before .before .before .before .before .before .before .before .if1 .left))
+part-unpack-end c =
+    in-memory (c .before .before .before .before .before .before .before .before .before .before .before .before .before .before .before
+    .before .before .before .before .pre)
+    (not-past (c .before .before .before .before .before .before .before .before .before .before .before .before .before .past .ensures)
+    (c .before .before .before .before .before .before .before .before .before .before .before .before .if1 .left))
 
 unpack-requires : tie.Need-unpack-requires
 unpack-requires c κs = search needs
@@ -90,7 +106,19 @@ same-length-3 : tie.Need-same-length-3
 same-length-3 c = search needs
 
 returns-3 : tie.Need-returns-3
-returns-3 c = called (c .settled2 .ensures) (write-makes (c .before .before .before .before .before .before .before .before .before .before .before .answer .result) (not-past (c .before .before .before .before .before .before .before .before .before .before .before .before .before .before .before .before .before .past .ensures) (c .before .before .before .before .before .before .before .before .before .before .before .before .before .before .before .before .if1 .left)) (c .before .before .before .before .before .before .before .before .before .before .before .before .before .before .before .before .before .before .before .before .before .before .before .pre) (c .before .before .before .before .before .before .before .before .before .before .before .before .before .before .response .ensures) (c .before .before .before .before .before .before .before .before .before .before .before .answer .ensures) (not-false _ (c .before .before .before .before .before .before .before .if2 .left)) (c .before .before .before .unpack .last .1 .0) (c .before .before .before .unpack .ensures))
+returns-3 c =
+    called (c .settled2 .ensures)
+    (write-makes (c .before .before .before .before .before .before .before .before .before .before .before .before .answer .result)
+    (not-past (c .before .before .before .before .before .before .before .before .before .before .before .before .before .before .before
+    .before .before .before .past .ensures)
+    (c .before .before .before .before .before .before .before .before .before .before .before .before .before .before .before .before
+    .before .if1 .left))
+    (c .before .before .before .before .before .before .before .before .before .before .before .before .before .before .before .before
+    .before .before .before .before .before .before .before .before .pre)
+    (c .before .before .before .before .before .before .before .before .before .before .before .before .before .before .before .response
+    .ensures) (c .before .before .before .before .before .before .before .before .before .before .before .before .answer .ensures)
+    (not-false _ (c .before .before .before .before .before .before .before .before .if2 .left))
+    (c .before .before .before .unpack .last .1 .0) (c .before .before .before .unpack .ensures))
 
 pub write-spec : {M : Type 1} → statement M
 write-spec =
