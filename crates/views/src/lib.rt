@@ -7,6 +7,7 @@ use present::past;
 use present::response;
 use promise::Called;
 use state::State;
+use units::Bytes;
 use units::stamp::Stamp;
 ghost use Rattle.meaning.specs.Bench.{full};
 ghost use Rattle.meaning.specs.declared.table.OnPlaque.the-variants.{Read, ReadId, Search};
@@ -35,7 +36,7 @@ pub fn read(
     if past(plaque, m) {
         return refused(s, 12);
     }
-    let from = i * 1024 + m.start as usize;
+    let from = i * Bytes::REGION.0 + m.start as usize;
     let to = from + m.size as usize;
     let n = s.nodes[i];
     settled(answer(

@@ -25,10 +25,12 @@ refused-requires : tie.Need-refused-requires
 refused-requires c κs = search needs
 
 returns : tie.Need-returns
-returns c = called (c .refused .ensures) (read-over (is-past (c .before .before .past .ensures) (c .before .if1 .taken)) (c .before .before .before .before .before .before .before .before .pre))
+returns c =
+    called (c .refused .ensures) (read-over (is-past (c .before .before .past .ensures) (c .before .if1 .taken))
+    (c .before .before .before .before .before .before .before .before .pre))
 
 mul-from : tie.Need-mul-from
-mul-from c = let i = index (c .before .before .before .before .before .before .before .pre .orderly) in search needs
+mul-from c = let i = index (c .before .before .before .before .before .before .before .before .pre .orderly) in search needs
 
 cast-from : tie.Need-cast-from
 cast-from c = search needs
@@ -46,7 +48,7 @@ mul-n : tie.Need-mul-n
 mul-n c = search needs
 
 element-copy-out-n : tie.Need-element-copy-out-n
-element-copy-out-n c = node-index (c .before .before .before .before .before .before .before .before .before .pre .orderly)
+element-copy-out-n c = node-index (c .before .before .before .before .before .before .before .before .before .before .pre .orderly)
 
 response-requires : tie.Need-response-requires
 response-requires c κs = search needs
@@ -58,10 +60,15 @@ part-answer-start : tie.Need-part-answer-start
 part-answer-start c = search needs
 
 part-answer-end : tie.Need-part-answer-end
-part-answer-end c = in-memory (c .before .before .before .before .before .before .before .before .before .before .before .pre) (not-past (c .before .before .before .before .before .past .ensures) (c .before .before .before .before .if1 .left))
+part-answer-end c =
+    in-memory (c .before .before .before .before .before .before .before .before .before .before .before .before .pre)
+    (not-past (c .before .before .before .before .before .before .past .ensures) (c .before .before .before .before .before .if1 .left))
 
 answer-requires : tie.Need-answer-requires
-answer-requires c κs = good-answerable (c .before .before .before .before .before .before .before .before .before .before .before .before .before .pre .orderly) (c .before .before .response .ensures) _ (lent-short (c .before .before .before .before .before .before .before .before .before .before .before .before .before .pre))
+answer-requires c κs =
+    good-answerable (c .before .before .before .before .before .before .before .before .before .before .before .before .before .before .pre
+    .orderly) (c .before .before .response .ensures) _
+    (lent-short (c .before .before .before .before .before .before .before .before .before .before .before .before .before .before .pre))
 
 settled-requires : tie.Need-settled-requires
 settled-requires c κs = search needs
@@ -70,7 +77,13 @@ same-length : tie.Need-same-length
 same-length c = search needs
 
 returns-2 : tie.Need-returns-2
-returns-2 c = called (c .settled .ensures) (read-makes (c .before .before .before .answer .result) (not-past (c .before .before .before .before .before .before .before .before .before .before .before .past .ensures) (c .before .before .before .before .before .before .before .before .before .before .if1 .left)) (c .before .before .before .before .before .before .before .before .before .before .before .before .before .before .before .before .before .pre) (c .before .before .before .before .before .before .response .ensures) (c .before .before .before .answer .ensures))
+returns-2 c =
+    called (c .settled .ensures) (read-makes (c .before .before .before .answer .result)
+    (not-past (c .before .before .before .before .before .before .before .before .before .before .before .before .past .ensures)
+    (c .before .before .before .before .before .before .before .before .before .before .before .if1 .left))
+    (c .before .before .before .before .before .before .before .before .before .before .before .before .before .before .before .before
+    .before .before .pre) (c .before .before .before .before .before .before .response .ensures)
+    (c .before .before .before .answer .ensures))
 
 pub read-spec : {M : Type 1} → statement M
 read-spec =
