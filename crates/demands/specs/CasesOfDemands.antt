@@ -108,18 +108,18 @@ delayIn (on start size delay r) = delay
 
 unfoldable pub lineCases : List Case
 lineCases =
-    "the call" says eqb (named (noted (leave 5) .call)) 5
-    ∷ "a refusal" says eqb (number (noted (leave 5) .said)) 14
-    ∷ "an answer" says isQueued (noted (cmd (search 2)) .said)
-    ∷ "pending answers after it" says eqb (length (noted (cmd (search 2)) .node .pending)) 2
-    ∷ "count after it" says eqb (noted (cmd (search 2)) .node .count) 2
-    ∷ "handover number after it" says eqb (noted (acknowledge 2 1) .node .handover) 2
-    ∷ "plaque after it" says eqb (lengthIn (noted short .reader .field)) 1
-    ∷ "continuous reading after it" says eqb (delayIn (noted (cmd (goesOn 2 9 0 2)) .reader .mode)) 9
-    ∷ "region after it" says same (take 5 (noted short .reader .region)) (bytes "0922334407")
-    ∷ "name after it" says same (noted (cmd (hex "0007 AA21 0020 0000 0000 0002 4344")) .name) (bytes "4344")
-    ∷ "another reader's node" says eqb (line 3 (cmd (search 2)) (step full before (cmd (search 2))) .node .count) 0
-    ∷ "another reader's plaque" says eqb (lengthIn (line 3 (leave 5) (step full before (leave 5)) .reader .field)) 0
+    "G-3: the call" says eqb (named (noted (leave 5) .call)) 5
+    ∷ "G-3: a refusal" says eqb (number (noted (leave 5) .said)) 14
+    ∷ "G-3: an answer" says isQueued (noted (cmd (search 2)) .said)
+    ∷ "G-3: pending answers after it" says eqb (length (noted (cmd (search 2)) .node .pending)) 2
+    ∷ "G-3: count after it" says eqb (noted (cmd (search 2)) .node .count) 2
+    ∷ "G-3: handover number after it" says eqb (noted (acknowledge 2 1) .node .handover) 2
+    ∷ "G-3: plaque after it" says eqb (lengthIn (noted short .reader .field)) 1
+    ∷ "G-3: continuous reading after it" says eqb (delayIn (noted (cmd (goesOn 2 9 0 2)) .reader .mode)) 9
+    ∷ "G-3: region after it" says same (take 5 (noted short .reader .region)) (bytes "0922334407")
+    ∷ "G-3: name after it" says same (noted (cmd (hex "0007 AA21 0020 0000 0000 0002 4344")) .name) (bytes "4344")
+    ∷ "G-3: another reader's node" says eqb (line 3 (cmd (search 2)) (step full before (cmd (search 2))) .node .count) 0
+    ∷ "G-3: another reader's plaque" says eqb (lengthIn (line 3 (leave 5) (step full before (leave 5)) .reader .field)) 0
     ∷ "a log has a line for each call" says eqb (length (log full 2 before (leave 5 ∷ short ∷ []))) 2
     ∷ "each after the call before it" says
     same (map (λ l. l .node .count) (log full 2 before (cmd (search 2) ∷ cmd (search 3) ∷ cmd (search 2) ∷ []))) (2 ∷ 2 ∷ 3 ∷ [])

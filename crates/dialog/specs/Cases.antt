@@ -36,7 +36,7 @@ times (suc n) s = ascii s ++ times n s
 -- ---- lines
 unfoldable pub lineCases : List Case
 lineCases =
-    "console.md's example" says
+    "the console's own example" says
     ("arrive 2 E0040100002E16AD 11223344" ∷ "command 3 19 10 11 36 register 0006 AA05 0002 07D0 0000 0003" ∷ "collect 2 framed"
     ∷ "acknowledge 2 7" ∷ "acknowledge 2 1" ∷ "collect 2 register" ∷ [])
     bring ("done" ∷ "queued" ∷ "collected 1 FF02 0008 AA05 0002 0313 0A0B 2403 1122 3300" ∷ "refused 15" ∷ "done" ∷ "refused 14" ∷ [])

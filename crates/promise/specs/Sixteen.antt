@@ -2,7 +2,7 @@
 -- Assumes nothing.
 use Prim.Native.Nat.{ℕ}
 use mathlib.Core.Bool.{true}
-use mathlib.Core.List.{List, [], _∷_, _++_}
+use mathlib.Core.List.{List, [], _∷_, _++_, map}
 use lib.ListN.{replicate}
 use Rattle.units.specs.declared.Form.the-variants.{Register, Framed}
 use Rattle.meaning.specs.Bench.{full}
@@ -71,3 +71,12 @@ sixteen =
     ∷ (acknowledge 1 0 on waiting)  -- 15
     ∷ (collect Register 1 5 on waiting)  -- 16
     ∷ []
+
+-- H-1: "each call that is given both judges both", before all other numbers. With each of these something else is wrong too: a stamp that
+-- is none, a node that is none, no words, no output
+unfoldable pub hasty : List Call
+hasty =
+    command (midnight 2 30) Register [] ∷ check 99 (midnight 2 30) 0 ∷ arrive 99 [] [] ∷ leave 99 ∷ collect Framed 99 0 ∷ acknowledge 99 0 ∷ []
+
+unfoldable pub saidOn : Machine → List Said
+saidOn m = map (λ c. answer (c on m)) hasty
