@@ -20,15 +20,12 @@ use Rattle.lists.specs.Room.{roomFor}
 use Rattle.store.specs.Joined.{Added, Queue}
 use Rattle.store.proofs.Order.{lists-parts}
 use Rattle.promise.specs.Same.{known, Alike}
-use Rattle.promise.proofs.Only.{ListFit, none-by, known-same}
+use Rattle.promise.proofs.Only.{clash, ListFit, none-by, known-same}
 
 -- ---- nodes that mean the same, whose lists are in order
 node-fit : (store : List ℕ) (x : Node) → counted store x ≡ true → listClear x ≡ true → ListFit store x
 unfolding counted listClear
 node-fit store x c z = record { words = eqb-true _ _ c; none = none-by (eqb (x .list .count) 0) _ z }
-
-clash : {A : Type 0} → _≡_ {A = ℕ} 0 1 → A
-clash z = absurd (omega arith)
 
 knowns-same : (s t : List ℕ) (xs ys : List Node) → every (counted s) xs ≡ true → every listClear xs ≡ true → every (counted t) ys ≡ true
     → every listClear ys ≡ true → map (nodeOf s) xs ≡ map (nodeOf t) ys → map (known s) xs ≡ map (known t) ys

@@ -97,7 +97,7 @@ name-same s t p q a c e =
     name-by n w
 
 -- ---- a reader: its parts are fixed by what they mean and the zeros
-clash : {A : Type 0} → _≡_ {A = ℕ} 0 1 → A
+pub clash : {A : Type 0} → _≡_ {A = ℕ} 0 1 → A
 clash z = absurd (omega arith)
 
 plaque-same : (b : Bench) (p q : P.Plaque) → plaqueOk b p ≡ true → plaqueOk b q ≡ true → fieldOf p ≡ fieldOf q → p ≡ q
