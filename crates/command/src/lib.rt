@@ -130,7 +130,7 @@ fn delay_wrong(kind: Kind, m: Command) -> bool
 fn past_region(m: Command) -> bool
     ensures { λ r. ⌜ r ≡ rangeWrong (full .region) Continuous m ⌝ }
 {
-    if Bytes::REGION.0 < m.start as usize + m.size as usize {
+    if (Bytes::REGION.0 as usize) < m.start as usize + m.size as usize {
         return true;
     }
     if m.size != 0 {

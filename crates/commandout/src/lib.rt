@@ -33,15 +33,17 @@ fn headed_count(form: Form, amount: Bytes) -> Words
     }
 }
 
-// 7 to 11 and 16; 0 where the packet is written.
-fn row_refusal(row: Row, form: Form, m: Command, amount: Bytes, room: Words) -> u8
-    ensures { λ r. ⌜ r ≡ refusal (writerDoubts full row form m (amount .0) (room .0)) ⌝ }
+// 7 to 11 and 16; 0 where the packet is written. The amount and the room are lengths of lent memory: once 9 is ruled out the amount is
+// what the row says.
+fn row_refusal(row: Row, form: Form, m: Command, amount: usize, room: usize) -> u8
+    ensures { λ r. ⌜ r ≡ refusal (writerDoubts full row form m amount room) ⌝ }
 {
     let who = who_refusal(row, m);
     if who != 0 {
         return who;
     }
-    if amount.0 != carried(row, m).0 {
+    let load = carried(row, m);
+    if amount != load.0 as usize {
         return 9;
     }
     let limit = limit_refusal(row, m);
@@ -52,14 +54,14 @@ fn row_refusal(row: Row, form: Form, m: Command, amount: Bytes, room: Words) -> 
     if unused != 0 {
         return unused;
     }
-    if room.0 < headed_count(form, amount).0 {
+    if room < headed_count(form, load).0 as usize {
         return 16;
     }
     0
 }
 
-fn write_refusal(form: Form, m: Command, amount: Bytes, room: Words) -> u8
-    ensures { λ r. ⌜ r ≡ writeRefusal full form m (amount .0) (room .0) ⌝ }
+fn write_refusal(form: Form, m: Command, amount: usize, room: usize) -> u8
+    ensures { λ r. ⌜ r ≡ writeRefusal full form m amount room ⌝ }
 {
     row_refusal(row_of(m.command), form, m, amount, room)
 }
@@ -70,7 +72,7 @@ fn put_body(m: Command, bytes: &[u8], out: &mut [u16])
     requires { ⌜ length (now bytes) ≤ 65535 ⌝ }
     ensures { λ _. ⌜ now (out .exit) ≡ commandBody m (now (bytes .entry)) ++ drop (overall (length (now (bytes .entry)))) (now (out .entry)) ⌝ }
 {
-    out[0] = overall(Bytes(bytes.len())).0 as u16;
+    out[0] = overall(Bytes(bytes.len() as u16)).0;
     out[1] = word(0xAA, m.command);
     out[2] = word(0, m.node);
     out[3] = m.word4;
@@ -101,11 +103,10 @@ pub fn write_command(form: Form, m: Command, bytes: &[u8], out: &mut [u16]) -> W
     ensures { λ r. ⌜ r ≡ writeCommand full form m (now (bytes .entry)) (length (now (out .entry))) ⌝ }
     ensures { λ _. ⌜ now (out .exit) ≡ commandOutput full form m (now (bytes .entry)) (now (out .entry)) ⌝ }
 {
-    let amount = Bytes(bytes.len());
-    let n = write_refusal(form, m, amount, Words(out.len()));
+    let n = write_refusal(form, m, bytes.len(), out.len());
     if n != 0 {
         return Written::Refused(n);
     }
     put_words(form, m, bytes, out);
-    Written::Done(headed_count(form, amount))
+    Written::Done(headed_count(form, Bytes(bytes.len() as u16)))
 }

@@ -38,7 +38,7 @@ pub fn same_command(words: &[u16], form: Form, m: Command, bytes: &[u8]) -> bool
     let mut again = [0u16; 256];
     match write_command(form, m, bytes, &mut again) {
         Written::Refused(_) => false,
-        Written::Done(n) => same(words, &again, n.0),
+        Written::Done(n) => same(words, &again, n.0 as usize),
     }
 }
 
@@ -48,6 +48,6 @@ pub fn same_response(words: &[u16], form: Form, r: Response, bytes: &[u8]) -> bo
     let mut again = [0u16; 256];
     match write_response(form, r, bytes, &mut again) {
         Written::Refused(_) => false,
-        Written::Done(n) => same(words, &again, n.0),
+        Written::Done(n) => same(words, &again, n.0 as usize),
     }
 }

@@ -126,7 +126,7 @@ pub fn say_of_command(out: &mut [u8], at: usize, words: &[u16], form: Form) -> u
         CommandRead::Accepted(m) => {
             let mut bytes = [0u8; 256];
             unpack(command_data(words, form), &mut bytes);
-            let n = carried(row_of(m.command), m).0;
+            let n = carried(row_of(m.command), m).0 as usize;
             say_accepted(out, at, words, form, m, part(&bytes, 0, n))
         }
     }

@@ -112,7 +112,7 @@ pub fn say_of_response(out: &mut [u8], at: usize, words: &[u16], form: Form) -> 
         ResponseRead::Accepted(r, amount) => {
             let mut bytes = [0u8; 256];
             unpack(response_data(words, form), &mut bytes);
-            say_accepted(out, at, words, form, r, part(&bytes, 0, amount.0))
+            say_accepted(out, at, words, form, r, part(&bytes, 0, amount.0 as usize))
         }
     }
 }

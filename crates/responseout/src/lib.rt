@@ -39,18 +39,18 @@ fn shown_count(form: Form, node: u8, amount: Bytes) -> Words
 }
 
 // 10
-fn amount_wrong(error: bool, amount: Bytes) -> bool
-    ensures { λ r. ⌜ r ≡ amountWrong error (amount .0) ⌝ }
+fn amount_wrong(error: bool, amount: usize) -> bool
+    ensures { λ r. ⌜ r ≡ amountWrong error amount ⌝ }
 {
-    if Bytes::DATA.0 < amount.0 {
+    if (Bytes::DATA.0 as usize) < amount {
         return true;
     }
-    if error { amount.0 != 1 } else { false }
+    if error { amount != 1 } else { false }
 }
 
-// 3, 7, 10 and 16; 0 where the packet is written.
-fn respond_refusal(form: Form, r: Response, amount: Bytes, room: Words) -> u8
-    ensures { λ n. ⌜ n ≡ respondRefusal full form r (amount .0) (room .0) ⌝ }
+// 3, 7, 10 and 16; 0 where the packet is written. The amount and the room are lengths of lent memory: a count only once 10 is ruled out.
+fn respond_refusal(form: Form, r: Response, amount: usize, room: usize) -> u8
+    ensures { λ n. ⌜ n ≡ respondRefusal full form r amount room ⌝ }
 {
     let stamp = r.stamp;
     if !stamp.is_valid() {
@@ -62,7 +62,7 @@ fn respond_refusal(form: Form, r: Response, amount: Bytes, room: Words) -> u8
     if amount_wrong(r.error, amount) {
         return 10;
     }
-    if room.0 < shown_count(form, r.node, amount).0 {
+    if room < shown_count(form, r.node, Bytes(amount as u16)).0 as usize {
         return 16;
     }
     0
@@ -80,9 +80,9 @@ fn put_body(r: Response, bytes: &[u8], out: &mut [u16])
     requires { ⌜ overall (length (now bytes)) ≤ length (now out) ⌝ }
     ensures { λ _. ⌜ now (out .exit) ≡ responseBody r (now (bytes .entry)) ++ drop (overall (length (now (bytes .entry)))) (now (out .entry)) ⌝ }
 {
-    let amount = Bytes(bytes.len());
+    let amount = Bytes(bytes.len() as u16);
     let s = r.stamp;
-    out[0] = overall(amount).0 as u16;
+    out[0] = overall(amount).0;
     out[1] = word(mark(r.error), r.echo);
     out[2] = word(r.count, r.node);
     out[3] = word(s.month, s.day);
@@ -110,11 +110,10 @@ pub fn write_response(form: Form, r: Response, bytes: &[u8], out: &mut [u16]) ->
     ensures { λ w. ⌜ w ≡ writeResponse full form r (now (bytes .entry)) (length (now (out .entry))) ⌝ }
     ensures { λ _. ⌜ now (out .exit) ≡ responseOutput full form r (now (bytes .entry)) (now (out .entry)) ⌝ }
 {
-    let amount = Bytes(bytes.len());
-    let n = respond_refusal(form, r, amount, Words(out.len()));
+    let n = respond_refusal(form, r, bytes.len(), out.len());
     if n != 0 {
         return Written::Refused(n);
     }
     put_words(form, r, bytes, out);
-    Written::Done(shown_count(form, r.node, amount))
+    Written::Done(shown_count(form, r.node, Bytes(bytes.len() as u16)))
 }

@@ -10,7 +10,6 @@ use units::Bytes;
 ghost use Prim.Native.Nat.{_≤_};
 ghost use mathlib.Core.Path.{_≡_};
 ghost use mathlib.Core.Bool.{true};
-ghost use Rattle.units.specs.Count.{InWord};
 ghost use Rattle.meaning.specs.Bench.{full, hub};
 ghost use Rattle.meaning.specs.declared.table.Kind.the-variants.{Plaque, Gateway};
 ghost use Rattle.meaning.specs.Table.{_to_, rowOf, suits, carries, carried};
@@ -23,10 +22,9 @@ fn limits(low: u16, high: u16) -> Limits
 
 // The limits of a count of bytes.
 fn up_to(low: u16, most: Bytes) -> Limits
-    requires { ⌜ InWord (most .0) ⌝ }
     ensures { λ r. ⌜ r ≡ low to most .0 ⌝ }
 {
-    limits(low, most.0 as u16)
+    limits(low, most.0)
 }
 
 // The effect.
@@ -144,7 +142,7 @@ fn carries(load: Load, size: u16) -> Bytes
     match load {
         Load::Nothing => Bytes(0),
         Load::One => Bytes(1),
-        Load::Size => Bytes(size as usize),
+        Load::Size => Bytes(size),
     }
 }
 

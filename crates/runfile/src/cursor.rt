@@ -40,11 +40,11 @@ fn plaque_of(rest: &[u8]) -> PlaqueRecord
     if node < 1 || 16 < node {
         return PlaqueRecord::Broken;
     }
-    let length = Bytes(two_at(rest, 1) as usize);
+    let length = Bytes(two_at(rest, 1));
     if length.0 < 1 || Bytes::REGION.0 < length.0 {
         return PlaqueRecord::Broken;
     }
-    if rest.len() < 11 + length.0 {
+    if rest.len() < 11 + length.0 as usize {
         return PlaqueRecord::Broken;
     }
     PlaqueRecord::Plaque { node, length }
@@ -56,11 +56,11 @@ fn command_of(rest: &[u8]) -> CommandRecord
     if rest.len() < 7 {
         return CommandRecord::Broken;
     }
-    let words = Words(two_at(rest, 5) as usize);
+    let words = Words(two_at(rest, 5));
     if words.0 < Words::FIXED.0 || Words::PACKET.0 < words.0 {
         return CommandRecord::Broken;
     }
-    if rest.len() < 5 + words.bytes().0 {
+    if rest.len() < 5 + words.bytes().0 as usize {
         return CommandRecord::Broken;
     }
     CommandRecord::Command(words)

@@ -12,6 +12,9 @@ cast-if1 c = search needs
 cast-if1-2 : tie.Need-cast-if1-2
 cast-if1-2 c = search needs
 
+cast-if1-3 : tie.Need-cast-if1-3
+cast-if1-3 c = search needs
+
 add-if1 : tie.Need-add-if1
 add-if1 c = search needs
 
@@ -29,4 +32,4 @@ returns-3 c = sym (no-or (le-ltb _ _ (c .before .before .before .if1 .left)) ∙
 
 pub past-region-spec : {M : Type 1} → statement M
 past-region-spec =
-    tie.close (tie.spec cast-if1 cast-if1-2 add-if1 returns returns-2 returns-3)
+    tie.close (tie.spec cast-if1 cast-if1-2 cast-if1-3 add-if1 returns returns-2 returns-3)

@@ -10,11 +10,11 @@ use borrow.Author.Needs.{needs}
 use Rattle.commandout.proofs.put_body.Statement.{statement}
 use Rattle.commandout.proofs.put_body.Tie as tie
 
-overall-requires : tie.Need-overall-requires
-overall-requires c κs = search needs
-
 cast-out : tie.Need-cast-out
 cast-out c = search needs
+
+overall-requires : tie.Need-overall-requires
+overall-requires c κs = search needs
 
 slice-write-out : tie.Need-slice-write-out
 slice-write-out c = search needs
@@ -58,17 +58,17 @@ same-length c = c .before .out .given .1 ∙ simp length-set
 returns : tie.Need-returns
 unfolding commandBody
 returns c =
-    let a = c .before .before .before .before .before .before .before .before .before .before .args in
-    let six = c .before .before .before .before .before .before .before .overall .result .0 ∷ c .before .before .before .before .before .word .result ∷ c .before .before .before .before .word2 .result ∷ a .m .word4 ∷ a .m .start ∷ a .m .size ∷ [] in
+    let a = c .before .before .before .before .before .before .before .before .before .args in
+    let six = c .before .before .before .before .before .before .overall .result .0 ∷ c .before .before .before .before .before .word .result ∷ c .before .before .before .before .word2 .result ∷ a .m .word4 ∷ a .m .start ∷ a .m .size ∷ [] in
     tail-packed 6 (now (a .out)) _ (now (a .bytes)) six _ refl (sets-eq six (now (a .out)) 0 (omega arith)) (simp length-set (omega arith)) (c .before .before .pack .ensures)
-    ∙ rw (c .before .before .before .before .before .before .before .overall .ensures, c .before .before .before .before .before .word .ensures, c .before .before .before .before .word2 .ensures)
+    ∙ rw (c .before .before .before .before .before .before .overall .ensures, c .before .before .before .before .before .word .ensures, c .before .before .before .before .word2 .ensures)
 
 pub put-body-spec : {M : Type 1} → statement M
 put-body-spec =
     tie.close
     (tie.spec
-    overall-requires
     cast-out
+    overall-requires
     slice-write-out
     word-requires
     slice-write-out-2

@@ -2,6 +2,7 @@ use Rattle.commandout.proofs.Writable.{writable}
 use mathlib.Core.Path.{sym, ap, _∙_}
 use borrow.Author.Tests.{eq-eqb, ne-eqb}
 use Rattle.units.proofs.Choice.{yes-cond, no-cond}
+use native.Mathlib.Omega.{arith}
 use Prim.Native.Nat.{ℕ}
 use Rattle.meaning.specs.declared.packet.Written.the-variants.{Done}
 use Rattle.meaning.specs.Command.{writeCommand, commandOutput}
@@ -22,6 +23,13 @@ returns c = (
 
 put-words-requires : tie.Need-put-words-requires
 put-words-requires c κs = let w = writable _ (c .before .before .before .before .before .args .form) (c .before .before .before .before .before .args .m) _ _ (search needs) (sym (c .before .before .write-refusal .ensures) ∙ c .before .if1 .left) in w
+
+cast-t13 : tie.Need-cast-t13
+cast-t13 c =
+    let e = c .before .before .before .before in
+    let a = e .before .before .before .before .args in
+    let w = writable _ (a .form) (a .m) _ _ (search needs) (sym (e .before .write-refusal .ensures) ∙ e .if1 .left) .1 in
+    omega arith
 
 headed-count-requires : tie.Need-headed-count-requires
 headed-count-requires c κs = search needs
@@ -44,6 +52,7 @@ write-command-spec =
     write-refusal-requires
     returns
     put-words-requires
+    cast-t13
     headed-count-requires
     same-length
     returns-2)

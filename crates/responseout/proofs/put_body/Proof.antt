@@ -13,11 +13,11 @@ use borrow.Author.Needs.{needs}
 use Rattle.responseout.proofs.put_body.Statement.{statement}
 use Rattle.responseout.proofs.put_body.Tie as tie
 
-overall-requires : tie.Need-overall-requires
-overall-requires c κs = search needs
-
 cast-out : tie.Need-cast-out
 cast-out c = search needs
+
+overall-requires : tie.Need-overall-requires
+overall-requires c κs = search needs
 
 slice-write-out : tie.Need-slice-write-out
 slice-write-out c = search needs
@@ -76,18 +76,18 @@ same-length c = c .before .out .given .1 ∙ simp length-set
 returns : tie.Need-returns
 unfolding responseBody
 returns c =
-    let a = c .before .before .before .before .before .before .before .before .before .before .before .before .before .before .before .before .args in
-    let w : List ℕ = c .before .before .before .before .before .before .before .before .before .before .before .before .overall .result .0 ∷ c .before .before .before .before .before .before .before .before .before .word .result ∷ c .before .before .before .before .before .before .before .before .word2 .result ∷ c .before .before .before .before .before .before .before .word3 .result ∷ c .before .before .before .before .before .before .word4 .result ∷ c .before .before .before .before .word5 .result ∷ [] in
+    let a = c .before .before .before .before .before .before .before .before .before .before .before .before .before .before .before .args in
+    let w : List ℕ = c .before .before .before .before .before .before .before .before .before .before .before .overall .result .0 ∷ c .before .before .before .before .before .before .before .before .before .word .result ∷ c .before .before .before .before .before .before .before .before .word2 .result ∷ c .before .before .before .before .before .before .before .word3 .result ∷ c .before .before .before .before .before .before .word4 .result ∷ c .before .before .before .before .word5 .result ∷ [] in
     let n = length-packed (now (a .bytes)) in
     tail-onto 6 (now (a .out)) _ (packed (now (a .bytes))) w _ refl (sets-eq w (now (a .out)) 0 (omega arith)) (simp length-set (omega arith)) (c .before .before .pack .ensures)
-    ∙ rw (c .before .before .before .before .word5 .ensures, c .before .before .before .before .before .before .word4 .ensures, c .before .before .before .before .before .before .before .word3 .ensures, c .before .before .before .before .before .before .before .before .word2 .ensures, c .before .before .before .before .before .before .before .before .before .word .ensures, c .before .before .before .before .before .before .before .before .before .before .mark .ensures, c .before .before .before .before .before .before .before .before .before .before .before .before .overall .ensures, length-packed)
+    ∙ rw (c .before .before .before .before .word5 .ensures, c .before .before .before .before .before .before .word4 .ensures, c .before .before .before .before .before .before .before .word3 .ensures, c .before .before .before .before .before .before .before .before .word2 .ensures, c .before .before .before .before .before .before .before .before .before .word .ensures, c .before .before .before .before .before .before .before .before .before .before .mark .ensures, c .before .before .before .before .before .before .before .before .before .before .before .overall .ensures, length-packed)
 
 pub put-body-spec : {M : Type 1} → statement M
 put-body-spec =
     tie.close
     (tie.spec
-    overall-requires
     cast-out
+    overall-requires
     slice-write-out
     mark-requires
     word-requires

@@ -2,6 +2,7 @@ use mathlib.Core.Path.{sym, ap, _∙_}
 use Rattle.units.proofs.Choice.{yes-cond, no-cond}
 use borrow.Author.Tests.{eq-eqb, ne-eqb}
 use Rattle.meaning.proofs.ResponseLaws.{writable}
+use native.Mathlib.Omega.{arith}
 use Prim.Native.Nat.{ℕ}
 use Rattle.meaning.specs.Packet.{writtenCount, writtenOutput}
 use Rattle.meaning.specs.declared.packet.Written.the-variants.{Done}
@@ -22,6 +23,13 @@ returns c = (
 
 put-words-requires : tie.Need-put-words-requires
 put-words-requires c κs = let ok = writable _ _ _ _ _ (sym (c .before .before .respond-refusal .ensures) ∙ c .before .if1 .left) in (ok .short, ok .fits)
+
+cast-t13 : tie.Need-cast-t13
+cast-t13 c =
+    let e = c .before .before .before .before in
+    let ok = writable _ _ _ _ _ (sym (e .before .respond-refusal .ensures) ∙ e .if1 .left) in
+    let h = ok .short in
+    omega arith
 
 shown-count-requires : tie.Need-shown-count-requires
 shown-count-requires c κs = search needs
@@ -44,6 +52,7 @@ write-response-spec =
     respond-refusal-requires
     returns
     put-words-requires
+    cast-t13
     shown-count-requires
     same-length
     returns-2)

@@ -24,6 +24,9 @@ enum-known-n c = search needs
 slice-aggregate-same : tie.Need-slice-aggregate-same
 slice-aggregate-same c = search needs
 
+cast-same : tie.Need-cast-same
+cast-same c = search needs
+
 same-requires : tie.Need-same-requires
 same-requires c κs = search needs
 
@@ -33,7 +36,7 @@ returns c = sym (no-and _ (refused _ _ _ (sym (c .before .before .before .write-
 
 returns-2 : tie.Need-returns-2
 unfolding commandAgain writeCommand commandOutput
-returns-2 c = c .same .ensures ∙ rw (c .before .before .before .before .before .before .write-command .ensures .1) (compared _ _ _ _ _ _ (count-words (c .before .before .before .before .before .before .before .before .before .before .args .form) (c .before .before .before .before .before .before .before .before .before .before .args .m) (now (c .before .before .before .before .before .before .before .before .before .before .args .bytes))) (sym (c .before .before .before .before .before .before .write-command .ensures .0) ∙ c .before .before .before .n .given .1))
+returns-2 c = c .same .ensures ∙ rw (c .before .before .before .before .before .before .before .write-command .ensures .1) (compared _ _ _ _ _ _ (count-words (c .before .before .before .before .before .before .before .before .before .before .before .args .form) (c .before .before .before .before .before .before .before .before .before .before .before .args .m) (now (c .before .before .before .before .before .before .before .before .before .before .before .args .bytes))) (sym (c .before .before .before .before .before .before .before .write-command .ensures .0) ∙ c .before .before .before .before .n .given .1))
 
 pub same-command-spec : {M : Type 1} → statement M
 same-command-spec =
@@ -44,6 +47,7 @@ same-command-spec =
     enum-told
     enum-known-n
     slice-aggregate-same
+    cast-same
     same-requires
     returns
     returns-2)

@@ -24,6 +24,9 @@ enum-known-n c = search needs
 slice-aggregate-same : tie.Need-slice-aggregate-same
 slice-aggregate-same c = search needs
 
+cast-same : tie.Need-cast-same
+cast-same c = search needs
+
 same-requires : tie.Need-same-requires
 same-requires c κs = search needs
 
@@ -33,7 +36,7 @@ returns c = sym (no-and _ (refused _ _ _ (sym (c .before .before .before .write-
 
 returns-2 : tie.Need-returns-2
 unfolding responseAgain writeResponse responseOutput
-returns-2 c = c .same .ensures ∙ rw (c .before .before .before .before .before .before .write-response .ensures .1) (compared _ _ _ _ _ _ (count-responded (c .before .before .before .before .before .before .before .before .before .before .args .form) (c .before .before .before .before .before .before .before .before .before .before .args .r) (now (c .before .before .before .before .before .before .before .before .before .before .args .bytes))) (sym (c .before .before .before .before .before .before .write-response .ensures .0) ∙ c .before .before .before .n .given .1))
+returns-2 c = c .same .ensures ∙ rw (c .before .before .before .before .before .before .before .write-response .ensures .1) (compared _ _ _ _ _ _ (count-responded (c .before .before .before .before .before .before .before .before .before .before .before .args .form) (c .before .before .before .before .before .before .before .before .before .before .before .args .r) (now (c .before .before .before .before .before .before .before .before .before .before .before .args .bytes))) (sym (c .before .before .before .before .before .before .before .write-response .ensures .0) ∙ c .before .before .before .before .n .given .1))
 
 pub same-response-spec : {M : Type 1} → statement M
 same-response-spec =
@@ -44,6 +47,7 @@ same-response-spec =
     enum-told
     enum-known-n
     slice-aggregate-same
+    cast-same
     same-requires
     returns
     returns-2)

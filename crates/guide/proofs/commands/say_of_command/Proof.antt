@@ -42,6 +42,9 @@ row-of-requires c κs = search needs
 carried-requires : tie.Need-carried-requires
 carried-requires c κs = search needs
 
+cast-n : tie.Need-cast-n
+cast-n c = search needs
+
 slice-aggregate-part : tie.Need-slice-aggregate-part
 slice-aggregate-part c = search needs
 
@@ -80,6 +83,7 @@ say-of-command-spec =
     unpack-requires
     row-of-requires
     carried-requires
+    cast-n
     slice-aggregate-part
     part-requires
     say-accepted-requires

@@ -39,6 +39,9 @@ unpack-requires c κs = search needs
 slice-aggregate-part : tie.Need-slice-aggregate-part
 slice-aggregate-part c = search needs
 
+cast-part : tie.Need-cast-part
+cast-part c = search needs
+
 part-requires : tie.Need-part-requires
 part-requires c κs = search needs
 
@@ -73,6 +76,7 @@ say-of-response-spec =
     slice-aggregate-unpack
     unpack-requires
     slice-aggregate-part
+    cast-part
     part-requires
     say-accepted-requires
     same-length

@@ -14,14 +14,14 @@ returns c = no-command _ (λ f. omega arith)
 two-at-requires : tie.Need-two-at-requires
 two-at-requires c κs = search needs
 
-cast-if4 : tie.Need-cast-if4
-cast-if4 c = search needs
-
 returns-2 : tie.Need-returns-2
 returns-2 c = ⊎-elim (λ w. no-command _ (λ f. omega arith)) (λ w. no-command _ (λ f. omega (arith, ltb-true))) (c .if2 .came)
 
 bytes-requires : tie.Need-bytes-requires
 bytes-requires c κs = omega (arith, ltb-false)
+
+cast-if4 : tie.Need-cast-if4
+cast-if4 c = search needs
 
 add-if4 : tie.Need-add-if4
 add-if4 c = search needs
@@ -40,9 +40,9 @@ command-of-spec =
     (tie.spec
     returns
     two-at-requires
-    cast-if4
     returns-2
     bytes-requires
+    cast-if4
     add-if4
     returns-3
     returns-4)

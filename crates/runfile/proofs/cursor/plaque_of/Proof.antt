@@ -21,11 +21,11 @@ returns-2 c = ⊎-elim (λ w. no-plaque full _ (λ f. omega arith)) (λ w. no-pl
 two-at-requires : tie.Need-two-at-requires
 two-at-requires c κs = search needs
 
-cast-if6 : tie.Need-cast-if6
-cast-if6 c = search needs
-
 returns-3 : tie.Need-returns-3
 returns-3 c = ⊎-elim (λ w. no-plaque full _ (λ f. omega arith)) (λ w. no-plaque full _ (λ f. omega (arith, ltb-true))) (c .if4 .came)
+
+cast-if6 : tie.Need-cast-if6
+cast-if6 c = search needs
 
 add-if6 : tie.Need-add-if6
 add-if6 c = search needs
@@ -46,8 +46,8 @@ plaque-of-spec =
     shared-slice-read-node
     returns-2
     two-at-requires
-    cast-if6
     returns-3
+    cast-if6
     add-if6
     returns-4
     returns-5)
