@@ -1,0 +1,35 @@
+use borrow.Author.Needs.{needs}
+use native.Mathlib.Omega.{arith}
+use mathlib.Core.Path.{ap, _∙_}
+use mathlib.Core.List.{List}
+use Prim.Native.Nat.{ℕ}
+use Rattle.moves.specs.Moved.{putIn}
+use Rattle.moves.proofs.Moves.{insert-is}
+use Rattle.moves.proofs.insert.Statement.{statement}
+use Rattle.moves.proofs.insert.Tie as tie
+
+move-up-requires : tie.Need-move-up-requires
+move-up-requires c κs = search needs
+
+copy-in-requires : tie.Need-copy-in-requires
+copy-in-requires c κs = search needs
+
+same-length : tie.Need-same-length
+same-length c = search needs
+
+returns : tie.Need-returns
+returns c =
+    let m = c .before .before .before .before .before .before in
+    let a = m .before .before .before .before .args in
+    c .before .before .copy-in .ensures
+    ∙ ap (λ (v : List ℕ). putIn v (a .at) (a .new .now)) (m .move-up .ensures)
+    ∙ insert-is (a .words .now) (a .at) (a .end) (a .new .now) (omega arith) (omega arith)
+
+pub insert-spec : {M : Type 1} → statement M
+insert-spec =
+    tie.close
+    (tie.spec
+    move-up-requires
+    copy-in-requires
+    same-length
+    returns)
