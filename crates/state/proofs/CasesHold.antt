@@ -6,18 +6,17 @@ use mathlib.Core.List.{[]}
 use Rattle.meaning.specs.Cases.{unheld}
 use Rattle.meaning.proofs.Opened.{responseRead, gateway}
 use Rattle.state.specs.State.{emptiedNode, resetNode}
-use Rattle.state.specs.Machine.{answerAt, startsOf, pendingOf, nodeOf, fieldOf, reportOf, modeOf, regionOf, readerOf, seen, nodesOf}
-use Rattle.state.specs.Machine.{readersOf, meaning}
-use Rattle.state.specs.Consistent.{okAnswer, overlap, clearOf, spots, inOrder, fineLists, heldsOf, counted, chargesOf, bounded}
-use Rattle.state.specs.Consistent.{listClear, listsOk, nodeOk, plaqueOk, readingOk, reportOk, readerOk, nameOk, arrays, consistent}
-use Rattle.state.specs.Consistent.{lengths, lent, unfit}
-use Rattle.state.specs.CasesOfStates.{lentCases, answerCases, sharingCases, countCases, boundCases, nodeCases, plaqueCases}
-use Rattle.state.specs.CasesOfStates.{readingCases, reportCases, nameCases, arrayCases, stateCases}
-use Rattle.state.specs.CasesOfMachines.{flat, inField, inReport, inMode, machineCases, valueCases}
+use Rattle.state.specs.Layout.{laid, allLaid, storeOf, cuts, past}
+use Rattle.state.specs.Machine.{nodesIn, fieldOf, reportOf, modeOf, regionOf, readerOf, seen, nodesOf, readersOf, meaning}
+use Rattle.state.specs.Consistent.{inLayout, formed, chargesOf, bounded, listed, listsOk, nodeOk, plaqueOk, readingOk, reportOk}
+use Rattle.state.specs.Consistent.{readerOk, nameOk, arrays, consistent, lengths, lent, unfit}
+use Rattle.state.specs.CasesOfStates.{lentCases, answerCases, gapCases, orderCases, sharingCases, tailCases, countCases, boundCases}
+use Rattle.state.specs.CasesOfStates.{endCases, nodeCases, plaqueCases, readingCases, reportCases, nameCases, arrayCases, stateCases}
+use Rattle.state.specs.CasesOfMachines.{flat, inField, inReport, inMode, machineCases, nodesAre, byNode, valueCases, layoutCases}
 
 -- what the rows compute with: to name one of these on a line of `unfolding` opens all that its own line names
 unfoldable pub lists : ℕ
-unfolding answerAt startsOf pendingOf okAnswer overlap clearOf spots inOrder fineLists heldsOf counted chargesOf bounded listClear listsOk
+unfolding laid allLaid storeOf cuts past nodesIn inLayout formed chargesOf bounded listed listsOk
 lists = 0
 
 unfoldable pub machines : ℕ
@@ -25,15 +24,19 @@ unfolding responseRead gateway lists nodeOk plaqueOk readingOk reportOk readerOk
 machines = 0
 
 unfoldable pub rows : ℕ
-unfolding lentCases answerCases sharingCases countCases boundCases nodeCases plaqueCases readingCases reportCases nameCases arrayCases
+unfolding lentCases answerCases gapCases orderCases sharingCases tailCases countCases boundCases endCases
 rows = 0
 
+unfoldable pub fields : ℕ
+unfolding nodeCases plaqueCases readingCases reportCases nameCases arrayCases
+fields = 0
+
 pub state-cases-hold : unheld stateCases ≡ []
-unfolding unheld stateCases rows machines
+unfolding unheld stateCases rows fields machines
 state-cases-hold = refl
 
 unfoldable pub meanings : ℕ
-unfolding responseRead answerAt startsOf pendingOf nodeOf fieldOf reportOf modeOf regionOf readerOf seen nodesOf readersOf meaning
+unfolding responseRead cuts past nodesIn fieldOf reportOf modeOf regionOf readerOf seen nodesOf readersOf meaning
 meanings = 0
 
 pub machine-cases-hold : unheld machineCases ≡ []
@@ -41,5 +44,9 @@ unfolding unheld machineCases meanings flat inField inReport inMode
 machine-cases-hold = refl
 
 pub value-cases-hold : unheld valueCases ≡ []
-unfolding unheld valueCases gateway emptiedNode resetNode
+unfolding unheld valueCases responseRead gateway emptiedNode resetNode nodesAre
 value-cases-hold = refl
+
+pub layout-cases-hold : unheld layoutCases ≡ []
+unfolding unheld layoutCases responseRead lists flat byNode
+layout-cases-hold = refl

@@ -1,20 +1,18 @@
--- Closed cases of refusals 1 and 2: machines, and the number that each is refused with, 0 for none. For each clause of "Room" stands one
--- that is refused and its nearest neighbour that is not; the faults stand at the first, a middle and the last reader or node in turn.
+-- Closed cases of refusals 1 and 2: machines, and the number that each is refused with, 0 for none. For each clause of "Room" and of
+-- request E8 stands one that is refused and its nearest neighbour that is not; the faults stand at the first, a middle and the last reader
+-- or node in turn.
 -- Assumes nothing.
-use Prim.Native.Nat.{ℕ, _+_, _-_}
+use Prim.Native.Nat.{ℕ, zero, suc, _+_, _-_}
 use mathlib.Core.Bool.{Bool, true, false}
 use mathlib.Core.List.{List, [], _∷_, _++_}
 use lib.Dec.{eqb}
 use lib.ListN.{length, take, set, replicate}
-use lib.Seq.{paste}
+use Rattle.units.specs.declared.Words.{Words}
 use Rattle.meaning.specs.Bench.{full}
 use Rattle.meaning.specs.Cases.{Case, _says_, hex, bytes}
-use Rattle.state.specs.State.{freshNode, freshReader, freshState, noPlaque, noReport, off}
+use Rattle.state.specs.State.{freshNode, freshReader, freshState, noPlaque, noReport, nothing, off}
 use Rattle.state.specs.Machine.{Machine, machine}
 use Rattle.state.specs.Consistent.{unfit}
-use Rattle.state.specs.declared.reader.Plaque.{Plaque}
-use Rattle.state.specs.declared.reader.Reading.{Reading}
-use Rattle.state.specs.declared.reader.Report.{Report}
 use Rattle.state.specs.declared.reader.Reader.{Reader}
 use Rattle.state.specs.declared.node.Node.{Node}
 use Rattle.state.specs.declared.State.{State}
@@ -36,31 +34,59 @@ stated s = machine s (replicate 4096 0) (replicate 16384 0)
 -- its name: a length, and the bytes that it has place for
 abbrev pub called : ℕ → List ℕ → Machine
 called k bs =
-    stated (record { name = record { length = record { 0 = k }; bytes = bs }; readers = freshState .readers; nodes = freshState .nodes })
+    stated (record {
+      name = record { length = record { 0 = k }; bytes = bs };
+      readers = freshState .readers;
+      nodes = freshState .nodes;
+      held = freshState .held;
+    })
 
 -- a reader, by its node
 abbrev pub read : ℕ → Reader → Machine
-read n r = stated (record { name = freshState .name; readers = set (freshState .readers) (n - 1) r; nodes = freshState .nodes })
+read n r =
+    stated (record {
+      name = freshState .name;
+      readers = set (freshState .readers) (n - 1) r;
+      nodes = freshState .nodes;
+      held = freshState .held;
+    })
 
--- the words from a place of the store on
-abbrev pub laid : ℕ → List ℕ → Machine → Machine
-laid p ws m = machine (m .state) (paste (m .store) p ws (length ws)) (m .memory)
+-- a node with so many answers, and so many words
+abbrev pub having : ℕ → Node
+having k = record { instance = 0; handover = 1; answers = k }
 
--- a node, by its slot: nodes 1 to 16 have slots 0 to 15, and node 32 has 16
-abbrev pub noded : ℕ → Node → Machine → Machine
-noded i n m =
-    machine (record { name = m .state .name; readers = m .state .readers; nodes = set (m .state .nodes) i n }) (m .store) (m .memory)
+abbrev pub amount : ℕ → Words
+amount w = record { 0 = w }
+
+-- a node and the words that it holds, by its slot: nodes 1 to 16 have slots 0 to 15, and node 32 has 16
+abbrev pub noded : ℕ → Node → ℕ → Machine → Machine
+noded i n words m =
+    machine (record {
+      name = m .state .name;
+      readers = m .state .readers;
+      nodes = set (m .state .nodes) i n;
+      held = set (m .state .held) i (amount words);
+    })
+    (m .store) (m .memory)
 
 abbrev pub numbered : ℕ → ℕ → Machine
-numbered i h = noded i (record { instance = 0; handover = h; list = freshNode .list }) fresh
+numbered i h = noded i (record { instance = 0; handover = h; answers = 0 }) 0 fresh
 
--- a node's list: how many answers, where the oldest begins, how many words
-abbrev pub listed : ℕ → ℕ → ℕ → ℕ → Machine → Machine
-listed i k p w m = noded i (record { instance = 0; handover = 1; list = record { count = k; place = p; words = record { 0 = w } } }) m
+-- how many answers of a slot's node are pending, and how many words it holds, as the state counts them
+abbrev pub holding : ℕ → ℕ → ℕ → Machine → Machine
+holding i k words m = noded i (having k) words m
 
--- an answer alone in the list of a slot's node, from a place on
-abbrev pub alone : ℕ → ℕ → List ℕ → Machine → Machine
-alone i p ws m = listed i 1 p (length ws) (laid p ws m)
+-- a store that begins with these words
+abbrev pub filled : List ℕ → Machine
+filled ws = machine freshState (ws ++ replicate (4096 - length ws) 0) (replicate 16384 0)
+
+-- so many answers of a slot's node alone, from the front
+abbrev pub only : ℕ → ℕ → List ℕ → Machine
+only i k ws = holding i k (length ws) (filled ws)
+
+-- one answer of each of two nodes, by their slots, with so many words
+abbrev pub both : ℕ → ℕ → ℕ → ℕ → List ℕ → Machine
+both i w j v ws = holding i 1 w (holding j 1 v (filled ws))
 
 -- ---- answers: a node's of 6 words; its longest; one with so many bytes of data that they make a whole count of words
 abbrev pub found : ℕ → List ℕ
@@ -82,14 +108,10 @@ five n = longest n ++ four n
 abbrev pub six : ℕ → List ℕ
 six n = longest n ++ five n
 
--- a store that begins with these words
-abbrev pub filled : List ℕ → Machine
-filled ws = machine freshState (ws ++ replicate (4096 - length ws) 0) (replicate 16384 0)
-
 -- three nodes, by their slots, the last one's number too: two hold 804 words, the third 536 and an answer more, with so many words of data
 abbrev pub crowd : ℕ → ℕ → ℕ → ℕ → ℕ → Machine
 crowd i j k n words =
-    listed i 6 0 804 (listed j 6 804 804 (listed k 5 1608 (542 + words)
+    holding i 6 804 (holding j 6 804 (holding k 5 (542 + words)
     (filled (six (i + 1) ++ six (j + 1) ++ four n ++ answer n words))))
 
 -- ---- parts of readers
@@ -126,99 +148,172 @@ lentCases =
     ∷ "no bytes" says lent 4096 0 gives 1
     ∷ "1 before 2, by the words" says machine (numbered 0 0 .state) (replicate 4095 0) (replicate 16384 0) gives 1
     ∷ "1 before 2, by the bytes" says machine (numbered 0 0 .state) (replicate 4096 0) (replicate 16385 0) gives 1
-    ∷ "words in no answer may be any" says machine freshState (replicate 4096 0xFFFF) (replicate 16384 0) gives 0
     ∷ "bytes in no plaque may be any" says machine freshState (replicate 4096 0) (replicate 16384 0xFF) gives 0
     ∷ []
 
 -- ---- "every pending answer a well-formed register-form response of its node inside the store"
 unfoldable pub answerCases : List Case
 answerCases =
-    "an answer of node 1" says alone 0 0 (found 1) fresh gives 0
-    ∷ "an answer of node 8" says alone 7 100 (found 8) fresh gives 0
-    ∷ "an answer of node 16" says alone 15 100 (found 16) fresh gives 0
-    ∷ "an answer of node 32" says alone 16 100 (found 32) fresh gives 0
-    ∷ "node 2's in the list of node 1" says alone 0 0 (found 2) fresh gives 2
-    ∷ "node 7's in the list of node 8" says alone 7 100 (found 7) fresh gives 2
-    ∷ "node 32's in the list of node 16" says alone 15 100 (found 32) fresh gives 2
-    ∷ "node 16's in the list of node 32" says alone 16 100 (found 16) fresh gives 2
-    ∷ "node 17's in the list of node 32" says alone 16 100 (found 17) fresh gives 2
-    ∷ "node 2's behind one of node 1, in its list" says listed 0 2 0 12 (laid 0 (found 1 ++ found 2) fresh) gives 2
-    ∷ "H-2 any echo, and any count" says alone 7 100 (hex "0006 AA99 C808 0101 0000 0000") fresh gives 0
-    ∷ "H-2 counts that do not run on" says
-    listed 7 2 100 12 (laid 100 (hex "0006 AA08 0508 0101 0000 0000 0006 AA08 0508 0101 0000 0000") fresh) gives 0
-    ∷ "H-2 an error response of any echo and code" says alone 16 100 (hex "0007 FF99 0020 0101 0000 0001 4200") fresh gives 0
-    ∷ "what the response reader refuses with 4" says alone 0 100 (hex "0005 AA08 0001 0101 0000") fresh gives 2
-    ∷ "what the response reader refuses with 5" says alone 0 100 (hex "0006 AB08 0001 0101 0000 0000") fresh gives 2
-    ∷ "what the response reader refuses with 9" says alone 15 100 (hex "0006 AA08 0010 0101 0000 0001") fresh gives 2
-    ∷ "what the response reader refuses with 3" says alone 15 100 (hex "0006 AA08 0010 021E 0000 0000") fresh gives 2
-    ∷ "what the response reader refuses with 10" says alone 16 100 (hex "0007 FFFF 0020 0101 0000 0002 0700") fresh gives 2
-    ∷ "what the response reader refuses with 11" says alone 16 100 (hex "0007 AA11 0020 0101 0000 0001 4142") fresh gives 2
-    ∷ "the same with 4, behind an answer that it accepts" says listed 7 2 100 12 (laid 100 (found 8) fresh) gives 2
-    ∷ "an answer that ends with the store" says alone 7 4090 (found 8) fresh gives 0
-    ∷ "an answer that would end a word behind the store" says
-    listed 7 1 4091 6 (machine freshState (replicate 4091 0 ++ take 5 (found 8)) (replicate 16384 0)) gives 2
-    ∷ "an answer that would begin behind the store" says listed 7 1 4096 0 fresh gives 2
-    ∷ "a second answer that would end a word behind the store" says
-    listed 16 2 4085 12 (machine freshState (replicate 4085 0 ++ found 32 ++ take 5 (found 32)) (replicate 16384 0)) gives 2
+    "an answer of node 1" says only 0 1 (found 1) gives 0
+    ∷ "an answer of node 8" says only 7 1 (found 8) gives 0
+    ∷ "an answer of node 16" says only 15 1 (found 16) gives 0
+    ∷ "an answer of node 32" says only 16 1 (found 32) gives 0
+    ∷ "node 2's in the list of node 1" says only 0 1 (found 2) gives 2
+    ∷ "node 7's in the list of node 8" says only 7 1 (found 7) gives 2
+    ∷ "node 32's in the list of node 16" says only 15 1 (found 32) gives 2
+    ∷ "node 16's in the list of node 32" says only 16 1 (found 16) gives 2
+    ∷ "node 17's in the list of node 32" says only 16 1 (found 17) gives 2
+    ∷ "node 2's behind one of node 1, in its list" says only 0 2 (found 1 ++ found 2) gives 2
+    ∷ "H-2 any echo, and any count" says only 7 1 (hex "0006 AA99 C808 0101 0000 0000") gives 0
+    ∷ "H-2 counts that do not run on" says only 7 2 (hex "0006 AA08 0508 0101 0000 0000 0006 AA08 0508 0101 0000 0000") gives 0
+    ∷ "H-2 an error response of any echo and code" says only 16 1 (hex "0007 FF99 0020 0101 0000 0001 4200") gives 0
+    ∷ "what the response reader refuses with 4" says only 0 1 (hex "0005 AA08 0001 0101 0000") gives 2
+    ∷ "what the response reader refuses with 5" says only 0 1 (hex "0006 AB08 0001 0101 0000 0000") gives 2
+    ∷ "what the response reader refuses with 9" says only 15 1 (hex "0006 AA08 0010 0101 0000 0001") gives 2
+    ∷ "what the response reader refuses with 3" says only 15 1 (hex "0006 AA08 0010 021E 0000 0000") gives 2
+    ∷ "what the response reader refuses with 10" says only 16 1 (hex "0007 FFFF 0020 0101 0000 0002 0700") gives 2
+    ∷ "what the response reader refuses with 11" says only 16 1 (hex "0007 AA11 0020 0101 0000 0001 4142") gives 2
+    ∷ "the same with 4, behind an answer that it accepts" says only 7 2 (found 8 ++ hex "0005 AA08 0008 0101 0000") gives 2
+    ∷ []
+
+-- ---- request E8: "node 1's from the front, oldest first, then node 2's, to 16, then 32's, with no gaps"
+-- node 1's answer of 8 words and node 2's of 6
+abbrev pub eightAndSix : List ℕ → Machine
+eightAndSix ws = both 0 8 1 6 ws
+
+unfoldable pub gapCases : List Case
+gapCases =
+    "E8-1 8 words of node 1, 6 of node 2" says eightAndSix (answer 1 2 ++ found 2) gives 0
+    ∷ "E8-3 a gap before the first" says eightAndSix (0 ∷ answer 1 2 ++ found 2) gives 2
+    ∷ "E8-3 a gap between node 1's and node 2's" says eightAndSix (answer 1 2 ++ (0 ∷ found 2)) gives 2
+    ∷ "E8-3 a gap of another word" says eightAndSix (answer 1 2 ++ (1 ∷ found 2)) gives 2
+    ∷ "E8-3 a gap as long as an answer" says eightAndSix (answer 1 2 ++ replicate 6 0 ++ found 2) gives 2
+    ∷ "two answers of node 1" says only 0 2 (found 1 ++ found 1) gives 0
+    ∷ "E8-3 a gap between two answers of node 1" says holding 0 2 12 (filled (found 1 ++ (0 ∷ found 1))) gives 2
+    ∷ "E8-3 a gap between two answers of node 32" says holding 16 2 12 (filled (found 32 ++ (0 ∷ found 32))) gives 2
+    ∷ "E8-3 node 32's alone, from word 1 on" says holding 16 1 6 (filled (0 ∷ found 32)) gives 2
+    ∷ "nodes 16 and 32" says both 15 6 16 6 (found 16 ++ found 32) gives 0
+    ∷ "E8-3 a gap between node 16's and node 32's" says both 15 6 16 6 (found 16 ++ (0 ∷ found 32)) gives 2
+    ∷ []
+
+unfoldable pub orderCases : List Case
+orderCases =
+    "E8-3 node 2's before node 1's" says eightAndSix (found 2 ++ answer 1 2) gives 2
+    ∷ "E8-3 node 2's before node 1's, of the same length" says both 0 6 1 6 (found 2 ++ found 1) gives 2
+    ∷ "E8-10 node 1's, then node 32's" says both 0 6 16 6 (found 1 ++ found 32) gives 0
+    ∷ "E8-10 node 32's, made before node 1's, before it" says both 0 6 16 6 (found 32 ++ found 1) gives 2
+    ∷ "node 32's before node 16's" says both 15 6 16 6 (found 32 ++ found 16) gives 2
+    ∷ "node 1's two, then node 2's" says holding 0 2 14 (holding 1 1 6 (filled (found 1 ++ answer 1 2 ++ found 2))) gives 0
+    ∷ "node 1's two, node 2's between" says holding 0 2 14 (holding 1 1 6 (filled (found 1 ++ found 2 ++ answer 1 2))) gives 2
+    ∷ "node 1's two, node 2's before" says holding 0 2 14 (holding 1 1 6 (filled (found 2 ++ found 1 ++ answer 1 2))) gives 2
+    ∷ "nodes 1, 8, 16 and 32" says
+    holding 0 1 6 (holding 7 1 8 (holding 15 1 6 (holding 16 1 7 (filled (found 1 ++ answer 8 2 ++ found 16 ++ answer 32 1))))) gives 0
+    ∷ "nodes 1, 16, 8 and 32" says
+    holding 0 1 6 (holding 7 1 8 (holding 15 1 6 (holding 16 1 7 (filled (found 1 ++ found 16 ++ answer 8 2 ++ answer 32 1))))) gives 2
     ∷ []
 
 -- ---- "no two sharing a word". The last word of `touching` is the Overall Length of an answer that begins with it
 abbrev pub touching : ℕ → List ℕ
 touching n = 0x0007 ∷ 0xAA05 ∷ n ∷ 0x0101 ∷ 0x0000 ∷ 0x0002 ∷ 0x0006 ∷ []
 
--- two answers of node 8 from place 100 on
-abbrev pub pair : Machine
-pair = listed 7 2 100 13 (laid 100 (found 8 ++ touching 8) fresh)
+-- such an answer of n, and one of k that shares its last word
+abbrev pub shared : ℕ → ℕ → List ℕ
+shared n k = take 6 (touching n) ++ found k
 
 unfoldable pub sharingCases : List Case
 sharingCases =
-    "the answers of nodes 1 and 2 touch" says alone 1 7 (found 2) (alone 0 0 (touching 1) fresh) gives 0
-    ∷ "the answers of nodes 1 and 2 share a word" says alone 1 6 (found 2) (alone 0 0 (touching 1) fresh) gives 2
-    ∷ "they touch, node 2's first" says alone 0 7 (found 1) (alone 1 0 (touching 2) fresh) gives 0
-    ∷ "they share a word, node 2's first" says alone 0 6 (found 1) (alone 1 0 (touching 2) fresh) gives 2
-    ∷ "the answers of nodes 16 and 32 touch" says alone 16 107 (found 32) (alone 15 100 (touching 16) fresh) gives 0
-    ∷ "the answers of nodes 16 and 32 share a word" says alone 16 106 (found 32) (alone 15 100 (touching 16) fresh) gives 2
-    ∷ "the answers of nodes 1 and 32 share a word, with one between" says
-    alone 16 6 (found 32) (alone 7 200 (found 8) (alone 0 0 (touching 1) fresh)) gives 2
-    ∷ "the second answer of a list and another list's touch" says alone 8 113 (found 9) pair gives 0
-    ∷ "the second answer of a list and another list's share a word" says alone 8 112 (found 9) pair gives 2
+    "the answers of nodes 1 and 2 touch" says both 0 7 1 6 (touching 1 ++ found 2) gives 0
+    ∷ "the answers of nodes 1 and 2 share a word" says both 0 7 1 6 (shared 1 2) gives 2
+    ∷ "the answers of nodes 16 and 32 touch" says both 15 7 16 6 (touching 16 ++ found 32) gives 0
+    ∷ "the answers of nodes 16 and 32 share a word" says both 15 7 16 6 (shared 16 32) gives 2
+    ∷ "two answers of node 8 touch" says only 7 2 (touching 8 ++ found 8) gives 0
+    ∷ "two answers of node 8 share a word" says holding 7 2 13 (filled (shared 8 8)) gives 2
     ∷ "node 2's answer within the data of node 1's" says
-    listed 0 1 0 12 (listed 1 1 6 6 (laid 0 (hex "000C AA05 0001 0101 0000 000C 0006 AA08 0002 0101 0000 0000") fresh)) gives 2
+    both 0 12 1 6 (hex "000C AA05 0001 0101 0000 000C 0006 AA08 0002 0101 0000 0000") gives 2
     ∷ "node 1's answer within the data of node 2's" says
-    listed 1 1 0 12 (listed 0 1 6 6 (laid 0 (hex "000C AA05 0002 0101 0000 000C 0006 AA08 0001 0101 0000 0000") fresh)) gives 2
+    both 0 6 1 12 (hex "000C AA05 0002 0101 0000 000C 0006 AA08 0001 0101 0000 0000") gives 2
     ∷ []
 
--- ---- the list's own counts
+-- ---- request E8: "Words after the last answer are 0"
+unfoldable pub tailCases : List Case
+tailCases =
+    "E8-4 a fresh state, store word 0 is 1" says filled (1 ∷ []) gives 2
+    ∷ "E8-4 a fresh state, store word 4,095 is 1" says filled (replicate 4095 0 ++ (1 ∷ [])) gives 2
+    ∷ "E8-4 a fresh state, and every word 0xFFFF" says machine freshState (replicate 4096 0xFFFF) (replicate 16384 0) gives 2
+    ∷ "E8-1 a word right behind the last answer" says eightAndSix (answer 1 2 ++ found 2 ++ (1 ∷ [])) gives 2
+    ∷ "E8-1 a word a gap behind the last answer" says eightAndSix (answer 1 2 ++ found 2 ++ (0 ∷ 0xFFFF ∷ [])) gives 2
+    ∷ "E8-1 the store's last word" says eightAndSix (answer 1 2 ++ found 2 ++ replicate 4081 0 ++ (1 ∷ [])) gives 2
+    ∷ "a word right behind node 32's" says holding 16 1 6 (filled (found 32 ++ (0x0006 ∷ []))) gives 2
+    ∷ "node 1's oldest acknowledged, its words still there" says holding 0 1 6 (filled (found 1 ++ found 1)) gives 2
+    ∷ "node 2's answer cleared, its words still there" says holding 0 1 8 (filled (answer 1 2 ++ found 2)) gives 2
+    ∷ "an answer, and none counted" says filled (found 1) gives 2
+    ∷ "an answer that is not counted, between two that are" says both 0 6 2 6 (found 1 ++ found 2 ++ found 3) gives 2
+    ∷ []
+
+-- ---- the counts of answers and of words, one for each node
 unfoldable pub countCases : List Case
 countCases =
-    "two answers of 6 words" says listed 0 2 50 12 (laid 50 (found 1 ++ found 1) fresh) gives 0
-    ∷ "two answers, a word fewer" says listed 0 2 50 11 (laid 50 (found 1 ++ found 1) fresh) gives 2
-    ∷ "two answers, a word more" says listed 0 2 50 13 (laid 50 (found 1 ++ found 1) fresh) gives 2
-    ∷ "two answers, one counted, the words of both" says listed 0 1 50 12 (laid 50 (found 1 ++ found 1) fresh) gives 2
-    ∷ "two answers, one counted, with its words" says listed 0 1 50 6 (laid 50 (found 1 ++ found 1) fresh) gives 0
-    ∷ "two answers, three counted" says listed 0 3 50 12 (laid 50 (found 1 ++ found 1) fresh) gives 2
-    ∷ "a word fewer at node 16" says listed 15 1 50 5 (laid 50 (found 16) fresh) gives 2
-    ∷ "a word more at node 32" says listed 16 1 50 7 (laid 50 (found 32) fresh) gives 2
-    ∷ "no answer and a word, at node 1" says listed 0 0 0 1 fresh gives 2
-    ∷ "no answer and a word, at node 32" says listed 16 0 0 1 fresh gives 2
-    ∷ "H-4 no answer at place 1, node 1" says listed 0 0 1 0 fresh gives 2
-    ∷ "H-4 no answer at place 1, node 16" says listed 15 0 1 0 fresh gives 2
-    ∷ "H-4 no answer at place 1, node 32" says listed 16 0 1 0 fresh gives 2
-    ∷ "an answer at place 1" says alone 16 1 (found 32) fresh gives 0
+    "two answers of node 1, a word fewer" says holding 0 2 11 (filled (found 1 ++ found 1)) gives 2
+    ∷ "two answers of node 1, a word more" says holding 0 2 13 (filled (found 1 ++ found 1)) gives 2
+    ∷ "two answers, one counted, the words of both" says holding 0 1 12 (filled (found 1 ++ found 1)) gives 2
+    ∷ "two answers, three counted" says holding 0 3 12 (filled (found 1 ++ found 1)) gives 2
+    ∷ "two answers, three counted, with words for three" says holding 0 3 18 (filled (found 1 ++ found 1)) gives 2
+    ∷ "a word fewer at node 16" says holding 15 1 5 (filled (found 16)) gives 2
+    ∷ "a word more at node 16" says holding 15 1 7 (filled (found 16)) gives 2
+    ∷ "a word fewer at node 32" says holding 16 1 5 (filled (found 32)) gives 2
+    ∷ "a word more at node 32" says holding 16 1 7 (filled (found 32)) gives 2
+    ∷ "no word counted" says holding 7 1 0 (filled (found 8)) gives 2
+    ∷ "no answer and a word, at node 1" says holding 0 0 1 fresh gives 2
+    ∷ "no answer and a word, at node 32" says holding 16 0 1 fresh gives 2
+    ∷ "an answer and no word, at node 1" says holding 0 1 0 fresh gives 2
+    ∷ "an answer and no word, at node 32" says holding 16 1 0 fresh gives 2
+    ∷ "a word of node 2's counted at node 1" says both 0 9 1 5 (answer 1 2 ++ found 2) gives 2
+    ∷ "a word of node 1's counted at node 2" says both 0 7 1 7 (answer 1 2 ++ found 2) gives 2
+    ∷ "node 1's words counted at node 2, and node 2's at node 1" says both 0 6 1 8 (answer 1 2 ++ found 2) gives 2
+    ∷ "node 32's words counted at node 16" says holding 15 0 6 (holding 16 1 0 (filled (found 32))) gives 2
+    ∷ "node 1's answers counted at node 2, with their words" says holding 0 1 6 (holding 1 1 6 (filled (found 1 ++ found 1))) gives 2
     ∷ []
 
 -- ---- "both bounds met": 5 · 134 + 128 + 6 is 804, and a word more of data makes 805
 unfoldable pub boundCases : List Case
 boundCases =
-    "node 1 holds 804" says listed 0 7 0 804 (filled (five 1 ++ answer 1 122 ++ found 1)) gives 0
-    ∷ "node 1 holds 805" says listed 0 7 0 805 (filled (five 1 ++ answer 1 123 ++ found 1)) gives 2
-    ∷ "node 16 holds 805" says listed 15 7 0 805 (filled (five 16 ++ answer 16 123 ++ found 16)) gives 2
-    ∷ "node 32 holds 804" says listed 16 6 0 804 (filled (six 32)) gives 0
-    ∷ "node 32 holds 805" says listed 16 7 0 805 (filled (five 32 ++ answer 32 123 ++ found 32)) gives 2
+    "node 1 holds 804" says only 0 7 (five 1 ++ answer 1 122 ++ found 1) gives 0
+    ∷ "node 1 holds 805" says only 0 7 (five 1 ++ answer 1 123 ++ found 1) gives 2
+    ∷ "node 16 holds 805" says only 15 7 (five 16 ++ answer 16 123 ++ found 16) gives 2
+    ∷ "node 32 holds 804" says only 16 6 (six 32) gives 0
+    ∷ "node 32 holds 805" says only 16 7 (five 32 ++ answer 32 123 ++ found 32) gives 2
     ∷ "the paper's 804, 804 and 612" says crowd 2 3 4 5 70 gives 0
     ∷ "804, 804 and 613" says crowd 2 3 4 5 71 gives 2
     ∷ "804 at nodes 1 and 16, 612 at node 32" says crowd 0 15 16 32 70 gives 0
     ∷ "804 at nodes 1 and 16, 613 at node 32" says crowd 0 15 16 32 71 gives 2
+    ∷ []
+
+-- ---- no word of the store to spare: nodes 1 to 14 hold their shares, node 15 holds 804 words, node 16 holds 612, and node 32 holds 804
+-- the longest answer of each of nodes 1 to n
+abbrev pub shares : ℕ → List ℕ
+shares zero = []
+shares (suc n) = shares n ++ longest (suc n)
+
+-- by how many answers of node 32 are counted, how many words, and the words that stand last in the store
+abbrev pub brim : ℕ → ℕ → List ℕ → Machine
+brim k w ws =
+    machine (record {
+      name = freshState .name;
+      readers = freshState .readers;
+      nodes = replicate 14 (having 1) ++ (having 6 ∷ having 5 ∷ having k ∷ []);
+      held = replicate 14 (amount 134) ++ (amount 804 ∷ amount 612 ∷ amount w ∷ []);
+    })
+    (shares 14 ++ six 15 ++ four 16 ++ answer 16 70 ++ ws) (replicate 16384 0)
+
+-- an answer that the store's end cuts short makes the charges more than 4,096, so it breaks that bound as well
+unfoldable pub endCases : List Case
+endCases =
+    "an answer that ends with the store" says brim 6 804 (six 32) gives 0
+    ∷ "one of 6 words that does" says brim 7 804 (five 32 ++ answer 32 122 ++ found 32) gives 0
+    ∷ "one of 7 words that would end a word behind the store" says brim 7 804 (five 32 ++ answer 32 122 ++ take 6 (answer 32 1)) gives 2
+    ∷ "the same, with its word behind the store counted" says brim 7 805 (five 32 ++ answer 32 122 ++ take 6 (answer 32 1)) gives 2
+    ∷ "an answer that would begin behind the store" says brim 7 804 (six 32) gives 2
+    ∷ "the same, counted with 6 words" says brim 7 810 (six 32) gives 2
     ∷ []
 
 -- ---- "every other field within the limits here, and 0 in each field that has no meaning now": nodes and readers
@@ -230,7 +325,7 @@ nodeCases =
     ∷ "handover number 0 at node 32" says numbered 16 0 gives 2
     ∷ "handover number 1" says numbered 7 1 gives 0
     ∷ "handover number 65,535" says numbered 16 65535 gives 0
-    ∷ "any instance count" says noded 7 (record { instance = 255; handover = 1; list = freshNode .list }) fresh gives 0
+    ∷ "any instance count" says noded 7 (record { instance = 255; handover = 1; answers = 0 }) 0 fresh gives 0
     ∷ []
 
 unfoldable pub plaqueCases : List Case
@@ -293,17 +388,26 @@ nameCases =
     ∷ "a byte behind a name of 63 bytes" says called 63 (replicate 64 0x41) gives 2
     ∷ []
 
--- ---- the arrays have their lengths
-abbrev pub arrayed : ℕ → ℕ → Machine
-arrayed readers nodes =
-    stated (record { name = freshState .name; readers = replicate readers freshReader; nodes = replicate nodes freshNode })
+-- ---- the arrays have their lengths: the readers, the nodes, the nodes' held words
+abbrev pub arrayed : ℕ → ℕ → ℕ → Machine
+arrayed readers nodes helds =
+    stated (record {
+      name = freshState .name;
+      readers = replicate readers freshReader;
+      nodes = replicate nodes freshNode;
+      held = replicate helds nothing;
+    })
 
 unfoldable pub arrayCases : List Case
 arrayCases =
-    "15 readers" says arrayed 15 17 gives 2
-    ∷ "17 readers" says arrayed 17 17 gives 2
-    ∷ "16 nodes" says arrayed 16 16 gives 2
-    ∷ "18 nodes" says arrayed 16 18 gives 2
+    "15 readers" says arrayed 15 17 17 gives 2
+    ∷ "17 readers" says arrayed 17 17 17 gives 2
+    ∷ "16 nodes" says arrayed 16 16 17 gives 2
+    ∷ "18 nodes" says arrayed 16 18 17 gives 2
+    ∷ "16 counts of held words" says arrayed 16 17 16 gives 2
+    ∷ "18 counts of held words" says arrayed 16 17 18 gives 2
+    ∷ "16 nodes, and as many counts" says arrayed 16 16 16 gives 2
+    ∷ "18 nodes, and as many counts" says arrayed 16 18 18 gives 2
     ∷ "63 bytes for the name" says called 0 (replicate 63 0) gives 2
     ∷ "65 bytes for the name" says called 0 (replicate 65 0) gives 2
     ∷ "an ID of 7 bytes" says read 8 (tagged true (replicate 7 1) 1) gives 2
@@ -314,5 +418,5 @@ arrayCases =
 
 unfoldable pub stateCases : List Case
 stateCases =
-    lentCases ++ answerCases ++ sharingCases ++ countCases ++ boundCases ++ nodeCases ++ plaqueCases ++ readingCases ++ reportCases
-    ++ nameCases ++ arrayCases
+    lentCases ++ answerCases ++ gapCases ++ orderCases ++ sharingCases ++ tailCases ++ countCases ++ boundCases ++ endCases ++ nodeCases
+    ++ plaqueCases ++ readingCases ++ reportCases ++ nameCases ++ arrayCases
