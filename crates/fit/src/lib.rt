@@ -1,7 +1,8 @@
 // Refusals 1 and 2: what is lent has its lengths, and the state is consistent.
-use lists::fine::lists_ok;
+use lists::line::lists_ok;
 use state::Name;
 use state::State;
+use state::node::Node;
 use state::reader::Plaque;
 use state::reader::Reader;
 use state::reader::Reading;
@@ -62,7 +63,7 @@ fn reading_ok(x: Reading, kept: bool) -> bool
     if Bytes::DATA.0 < size {
         return false;
     }
-    if Bytes::REGION.0 < x.start as usize + size {
+    if Bytes::REGION.0 - size < x.start {
         return false;
     }
     x.delay <= 60
@@ -96,19 +97,19 @@ fn reader_ok(x: Reader) -> bool
 }
 
 // The reader at an index. (A call's result is known to have all its bytes; an element of an array is not.)
-fn reader_of(s: State, i: usize) -> Reader
+fn reader_of(readers: [Reader; 16], i: usize) -> Reader
     requires { ⌜ i < 16 ⌝ }
-    ensures { λ r. ⌜ r ≡ getD (s .readers) i freshReader ⌝ }
+    ensures { λ r. ⌜ r ≡ getD readers i freshReader ⌝ }
 {
-    s.readers[i]
+    readers[i]
 }
 
-fn readers_ok(s: State) -> bool
-    ensures { λ r. ⌜ r ≡ every (readerOk full) (s .readers) ⌝ }
+pub fn readers_ok(readers: [Reader; 16]) -> bool
+    ensures { λ r. ⌜ r ≡ every (readerOk full) readers ⌝ }
 {
     let mut i: usize = 0;
     while i < 16 {
-        if !reader_ok(reader_of(s, i)) {
+        if !reader_ok(reader_of(readers, i)) {
             return false;
         }
         i += 1;
@@ -117,12 +118,12 @@ fn readers_ok(s: State) -> bool
 }
 
 // The other fields of a node may have any value.
-fn nodes_ok(s: State) -> bool
-    ensures { λ r. ⌜ r ≡ every nodeOk (s .nodes) ⌝ }
+fn nodes_ok(nodes: [Node; 17]) -> bool
+    ensures { λ r. ⌜ r ≡ every nodeOk nodes ⌝ }
 {
     let mut i: usize = 0;
     while i < 17 {
-        let n = s.nodes[i];
+        let n = nodes[i];
         if n.handover < 1 {
             return false;
         }
@@ -131,34 +132,36 @@ fn nodes_ok(s: State) -> bool
     true
 }
 
-fn name_ok(x: Name) -> bool
+pub fn name_ok(x: Name) -> bool
     ensures { λ r. ⌜ r ≡ nameOk x ⌝ }
 {
     let length = x.length.0;
     if Bytes::NAME.0 < length {
         return false;
     }
-    all_zero(&x.bytes, length)
+    all_zero(&x.bytes, length as usize)
 }
 
 // The number, or 0 where the call may go on.
 pub fn unfit(s: State, store: &[u16], plaques: &[u8]) -> u8
     ensures { λ r. ⌜ r ≡ unfit full (machine s (now (store .entry)) (now (plaques .entry))) ⌝ }
 {
-    if store.len() != Words::STORE.0 {
+    if store.len() != Words::STORE.0 as usize {
         return 1;
     }
-    if plaques.len() != Bytes::PLAQUES.0 {
+    if plaques.len() != Bytes::PLAQUES.0 as usize {
         return 1;
     }
     let nodes = s.nodes;
-    if !lists_ok(nodes, store) {
+    let held = s.held;
+    if !lists_ok(nodes, held, store) {
         return 2;
     }
-    if !nodes_ok(s) {
+    if !nodes_ok(nodes) {
         return 2;
     }
-    if !readers_ok(s) {
+    let readers = s.readers;
+    if !readers_ok(readers) {
         return 2;
     }
     let name = s.name;

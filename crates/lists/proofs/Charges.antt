@@ -3,7 +3,7 @@
 use Prim.Native.Nat.{ℕ, zero, suc, _+_, _≤_, _<_, max}
 use mathlib.Core.Path.{_≡_}
 use mathlib.Core.Bool.{Bool, true, false}
-use mathlib.Core.List.{List, [], _∷_}
+use mathlib.Core.List.{List, [], _∷_, map}
 use native.Mathlib.Omega.{arith}
 use lib.Dec.{leb}
 use lib.ListN.{length, take, getD, set, length-map, List·getD-map}
@@ -12,14 +12,12 @@ use Rattle.units.specs.Count.{every}
 use Rattle.units.specs.declared.Words.{Words}
 use Rattle.units.proofs.Choice.{yes-and, no-and, and-true}
 use Rattle.meaning.specs.Bench.{Bench}
-use Rattle.meaning.specs.Room.{added}
-use Rattle.state.specs.Consistent.{chargesOf, heldsOf, bounded}
-use Rattle.state.specs.Machine.{startsOf, pendingOf}
-use Rattle.state.specs.State.{freshNode}
-use Rattle.state.specs.declared.node.Node.{Node}
-use Rattle.state.proofs.InOrder.{listAt}
+use Rattle.meaning.specs.Gateway.{Node}
+use Rattle.meaning.specs.Room.{added, held}
+use Rattle.state.specs.Machine.{plain}
+use Rattle.state.specs.Consistent.{counts, chargesOf, bounded}
 use Rattle.state.proofs.Lists.{every-get}
-use Rattle.lists.specs.Room.{counts, wordsOf, roomFor}
+use Rattle.lists.specs.Room.{roomFor}
 
 pub count-at : (ws : List Words) (i : ℕ) → getD (counts ws) i 0 ≡ (getD ws i (record { 0 = 0 })) .0
 count-at ws i = List·getD-map (λ w. w .0) ws i (record { 0 = 0 })
@@ -34,17 +32,14 @@ charges-more share (x ∷ l) (suc i) h =
     let r : chargesOf share (take (suc i) l) ≡ chargesOf share (take i l) + max share (getD l i 0) = charges-more share l i (omega arith) in
     omega arith
 
--- ---- held words, as the nodes count them
-pub length-words : (ns : List Node) → length (wordsOf ns) ≡ length ns
-length-words ns = simp length-map
-
-pub words-at : (ns : List Node) (i : ℕ) → getD (wordsOf ns) i 0 ≡ listAt ns i .words .0
-words-at ns i = List·getD-map (λ n. n .list .words .0) ns i freshNode
+-- ---- held words, as the state counts them ..
+pub length-words : (hs : List Words) → length (counts hs) ≡ length hs
+length-words hs = simp length-map
 
 -- .. and as the store has them
-pub held-at : (store : List ℕ) (ns : List Node) (i : ℕ) → getD (heldsOf store ns) i 0 ≡ added (pendingOf store (listAt ns i))
-unfolding heldsOf added pendingOf startsOf
-held-at store ns i = List·getD-map (λ n. added (pendingOf store (n .list))) ns i freshNode
+pub held-at : (ms : List Node) (i : ℕ) → getD (map held ms) i 0 ≡ held (getD ms i plain)
+unfolding added
+held-at ms i = List·getD-map held ms i plain
 
 -- no count passes a limit
 abbrev pub limited : ℕ → List ℕ → Bool

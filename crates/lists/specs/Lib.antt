@@ -1,3 +1,2 @@
 pub mod Room
-pub mod Marks
-pub mod Walked
+pub mod Line

@@ -1,3 +1,3 @@
-// The pending lists, judged: held words, charges and room; and whether the lists are as a consistent state has them.
-pub mod fine;
+// The pending lists, judged: charges and room; and whether the lists are as a consistent state has them.
+pub mod line;
 pub mod room;

@@ -1,39 +1,26 @@
-// Held words, charges and room.
-use state::node::Node;
+// Charges and room, and the place where a node's answers begin: all by the words that the nodes hold.
 use units::Words;
 ghost use mathlib.Core.Path.{_≡_};
 ghost use mathlib.Core.Bool.{true};
 ghost use Prim.Native.Nat.{ℕ, _≤_, _<_};
 ghost use lib.ListN.{getD};
 ghost use Rattle.meaning.specs.Bench.{full};
-ghost use Rattle.state.specs.Consistent.{chargesOf, bounded};
-ghost use Rattle.lists.specs.Room.{counts, wordsOf, roomFor};
+ghost use Rattle.state.specs.Consistent.{counts, chargesOf, bounded};
+ghost use Rattle.lists.specs.Room.{placeOf, roomFor};
 
-// The Overall Length of the answer at a place of the store.
-pub fn length_at(store: &[u16], place: usize) -> Words
-    ensures { λ r. ⌜ r .0 ≡ getD (now (store .entry)) place 0 ⌝ }
+// Where the answers of the node at index i begin: behind the words of the nodes before it. (The one at 17 is where the store is free.)
+pub fn place_of(held: [Words; 17], i: usize) -> usize
+    requires { ⌜ i ≤ 17 ⌝ }
+    ensures { λ r. ⌜ r ≡ placeOf (counts held) i ⌝ }
 {
-    if place < store.len() {
-        return Words(store[place] as usize);
+    let mut sum: usize = 0;
+    let mut k: usize = 0;
+    while k < i {
+        let h = held[k];
+        sum += h.0 as usize;
+        k += 1;
     }
-    Words(0)
-}
-
-// The held words of every node.
-pub fn helds(nodes: [Node; 17]) -> [Words; 17]
-    ensures { λ r. ⌜ counts r ≡ wordsOf nodes ⌝ }
-{
-    let zero = Words(0);
-    let mut hs = [zero; 17];
-    let mut i: usize = 0;
-    while i < 17 {
-        let n = nodes[i];
-        let list = n.list;
-        let h = list.words;
-        hs[i] = h;
-        i += 1;
-    }
-    hs
+    sum
 }
 
 // The charges of all nodes, added up, where no node holds more than it may.
@@ -41,7 +28,7 @@ pub fn charges(hs: [Words; 17]) -> Words
     requires { ⌜ ((i : ℕ) → i < 17 → getD (counts hs) i 0 ≤ full .limit) ⌝ }
     ensures { λ r. ⌜ r .0 ≡ chargesOf (full .share) (counts hs) ⌝ }
 {
-    let mut sum: usize = 0;
+    let mut sum: u16 = 0;
     let mut i: usize = 0;
     while i < 17 {
         let h = hs[i];
@@ -52,11 +39,11 @@ pub fn charges(hs: [Words; 17]) -> Words
 }
 
 // Whether an answer of `new` words has room at the node of index i.
-pub fn has_room(nodes: [Node; 17], i: usize, new: Words) -> bool
-    requires { ⌜ (bounded full (wordsOf nodes) ≡ true) × (i < 17) ⌝ }
-    ensures { λ r. ⌜ r ≡ roomFor full (wordsOf nodes) i (new .0) ⌝ }
+pub fn has_room(held: [Words; 17], i: usize, new: Words) -> bool
+    requires { ⌜ (bounded full (counts held) ≡ true) × (i < 17) ⌝ }
+    ensures { λ r. ⌜ r ≡ roomFor full (counts held) i (new .0) ⌝ }
 {
-    let mut hs = helds(nodes);
+    let mut hs = held;
     let h = hs[i];
     if Words::LIMIT.0 - h.0 < new.0 {
         return false;

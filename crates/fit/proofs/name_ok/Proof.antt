@@ -10,6 +10,9 @@ returns : tie.Need-returns
 unfolding nameOk
 returns c = sym (no-and _ (lt-leb _ _ (c .if1 .taken)))
 
+cast-all-zero : tie.Need-cast-all-zero
+cast-all-zero c = search needs
+
 all-zero-requires : tie.Need-all-zero-requires
 all-zero-requires c κs = search needs
 
@@ -18,4 +21,4 @@ unfolding nameOk
 returns-2 c = c .all-zero .ensures ∙ sym (yes-and (le-leb _ _ (c .before .before .before .before .if1 .left)))
 
 pub name-ok-spec : {M : Type 1} → statement M
-name-ok-spec = tie.close (tie.spec returns all-zero-requires returns-2)
+name-ok-spec = tie.close (tie.spec returns cast-all-zero all-zero-requires returns-2)

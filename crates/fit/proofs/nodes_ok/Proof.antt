@@ -14,10 +14,10 @@ use Rattle.fit.proofs.nodes_ok.Statement.{statement}
 use Rattle.fit.proofs.nodes_ok.Tie as tie
 
 abbrev Inv-loop : tie.InvT-loop
-Inv-loop s i₀ i = (i ≤ 17) × (every nodeOk (s .nodes) ≡ every nodeOk (drop i (s .nodes)))
+Inv-loop nodes i₀ i = (i ≤ 17) × (every nodeOk nodes ≡ every nodeOk (drop i nodes))
 
 abbrev μ-loop : tie.MeasureT-loop
-μ-loop s i₀ i = 17 - i
+μ-loop nodes i₀ i = 17 - i
 
 loop-holds : tie.Need-loop-holds Inv-loop μ-loop
 loop-holds c = search needs
@@ -25,13 +25,13 @@ loop-holds c = search needs
 mul-n : tie.Need-mul-n Inv-loop μ-loop
 mul-n c = search needs
 
-element-copy-out-n : tie.Need-element-copy-out-n Inv-loop μ-loop
-element-copy-out-n c = search needs
+array-copy-out-n : tie.Need-array-copy-out-n Inv-loop μ-loop
+array-copy-out-n c = search needs
 
 returns : tie.Need-returns Inv-loop μ-loop
 unfolding nodeOk
 returns c =
-    let l : List Node = c .before .before .before .before .before .args .t1 .nodes in
+    let l : List Node = c .before .before .before .before .before .args .t1 in
     let n : length l ≡ 17 = search (needs, length-mapped) in
     sym (c .before .before .before .before .loop .inv .1 ∙ every-at nodeOk l (c .before .before .before .before .loop .i) _ (omega arith) ∙ no-and _ (lt-leb _ _ (c .if1 .taken)))
 
@@ -44,13 +44,13 @@ loop-less c = search needs
 loop-again : tie.Need-loop-again Inv-loop μ-loop
 unfolding nodeOk
 loop-again c =
-    let l : List Node = c .before .before .before .before .before .args .t1 .nodes in
+    let l : List Node = c .before .before .before .before .before .args .t1 in
     let n : length l ≡ 17 = search (needs, length-mapped) in
     (omega arith, c .before .before .before .before .loop .inv .1 ∙ every-at nodeOk l (c .before .before .before .before .loop .i) _ (omega arith) ∙ yes-and (le-leb 1 _ (c .if1 .left)))
 
 returns-2 : tie.Need-returns-2 Inv-loop μ-loop
 returns-2 c =
-    let l : List Node = c .before .before .args .t1 .nodes in
+    let l : List Node = c .before .before .args .t1 in
     let n : length l ≡ 17 = search (needs, length-mapped) in
     sym (c .before .loop .inv .1 ∙ every-end nodeOk l (c .before .loop .i) (omega arith))
 
@@ -62,7 +62,7 @@ nodes-ok-spec =
     μ-loop
     loop-holds
     mul-n
-    element-copy-out-n
+    array-copy-out-n
     returns
     add-i
     loop-less

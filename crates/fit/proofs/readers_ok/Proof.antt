@@ -17,10 +17,10 @@ use Rattle.fit.proofs.readers_ok.Statement.{statement}
 use Rattle.fit.proofs.readers_ok.Tie as tie
 
 abbrev Inv-loop : tie.InvT-loop
-Inv-loop s i₀ i = (i ≤ 16) × (every (readerOk full) (s .readers) ≡ every (readerOk full) (drop i (s .readers)))
+Inv-loop readers i₀ i = (i ≤ 16) × (every (readerOk full) readers ≡ every (readerOk full) (drop i readers))
 
 abbrev μ-loop : tie.MeasureT-loop
-μ-loop s i₀ i = 16 - i
+μ-loop readers i₀ i = 16 - i
 
 loop-holds : tie.Need-loop-holds Inv-loop μ-loop
 loop-holds c = search needs
@@ -33,7 +33,7 @@ reader-ok-requires c κs = search needs
 
 returns : tie.Need-returns Inv-loop μ-loop
 returns c =
-    let l : List Reader = c .before .before .before .before .before .args .s .readers in
+    let l : List Reader = c .before .before .before .before .before .args .readers in
     let n : length l ≡ 16 = search (needs, length-mapped) in
     let i = c .before .before .before .before .loop .i in
     let e : readerOk full (getD l i freshReader) ≡ false = ap (readerOk full) (sym (c .before .before .reader-of .ensures)) ∙ sym (c .before .reader-ok .ensures) ∙ not-true _ (c .if1 .taken) in
@@ -47,7 +47,7 @@ loop-less c = search needs
 
 loop-again : tie.Need-loop-again Inv-loop μ-loop
 loop-again c =
-    let l : List Reader = c .before .before .before .before .before .args .s .readers in
+    let l : List Reader = c .before .before .before .before .before .args .readers in
     let n : length l ≡ 16 = search (needs, length-mapped) in
     let i = c .before .before .before .before .loop .i in
     let e : readerOk full (getD l i freshReader) ≡ true = ap (readerOk full) (sym (c .before .before .reader-of .ensures)) ∙ sym (c .before .reader-ok .ensures) ∙ not-false _ (c .if1 .left) in
@@ -55,7 +55,7 @@ loop-again c =
 
 returns-2 : tie.Need-returns-2 Inv-loop μ-loop
 returns-2 c =
-    let l : List Reader = c .before .before .args .s .readers in
+    let l : List Reader = c .before .before .args .readers in
     let n : length l ≡ 16 = search (needs, length-mapped) in
     sym (c .before .loop .inv .1 ∙ every-end (readerOk full) l (c .before .loop .i) (omega arith))
 

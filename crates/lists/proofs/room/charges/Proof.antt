@@ -10,8 +10,7 @@ use lib.Seq.{take-all}
 use borrow.Author.Needs.{needs}
 use Rattle.units.specs.declared.Words.{Words}
 use Rattle.meaning.specs.Bench.{full}
-use Rattle.state.specs.Consistent.{chargesOf}
-use Rattle.lists.specs.Room.{counts}
+use Rattle.state.specs.Consistent.{counts, chargesOf}
 use Rattle.lists.proofs.Charges.{count-at, charges-more}
 use Rattle.lists.proofs.room.charges.Statement.{statement}
 use Rattle.lists.proofs.room.charges.Tie as tie

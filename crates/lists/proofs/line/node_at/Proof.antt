@@ -2,8 +2,8 @@ use mathlib.Core.Path.{sym}
 use borrow.Author.Needs.{needs}
 use borrow.Author.Tests.{lt-ltb, le-ltb}
 use Rattle.units.proofs.Choice.{yes-cond, no-cond}
-use Rattle.lists.proofs.fine.node_at.Statement.{statement}
-use Rattle.lists.proofs.fine.node_at.Tie as tie
+use Rattle.lists.proofs.line.node_at.Statement.{statement}
+use Rattle.lists.proofs.line.node_at.Tie as tie
 
 add-result : tie.Need-add-result
 add-result c = search needs

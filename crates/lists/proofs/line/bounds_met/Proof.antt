@@ -12,12 +12,11 @@ use borrow.Author.Tests.{le-leb, lt-leb}
 use Rattle.units.specs.declared.Words.{Words}
 use Rattle.units.proofs.Choice.{yes-and, no-and}
 use Rattle.meaning.specs.Bench.{full}
-use Rattle.state.specs.Consistent.{bounded}
+use Rattle.state.specs.Consistent.{counts, bounded}
 use Rattle.state.proofs.Lists.{every-at, every-end}
-use Rattle.lists.specs.Room.{counts}
 use Rattle.lists.proofs.Charges.{count-at, limited, limit-at}
-use Rattle.lists.proofs.fine.bounds_met.Statement.{statement}
-use Rattle.lists.proofs.fine.bounds_met.Tie as tie
+use Rattle.lists.proofs.line.bounds_met.Statement.{statement}
+use Rattle.lists.proofs.line.bounds_met.Tie as tie
 
 abbrev Inv-loop : tie.InvT-loop
 Inv-loop hs i₀ i = (i ≤ 17) × (limited (full .limit) (counts hs) ≡ limited (full .limit) (drop i (counts hs)))

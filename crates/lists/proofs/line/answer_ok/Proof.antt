@@ -5,8 +5,8 @@ use native.Mathlib.Omega.{arith}
 use borrow.Author.Needs.{needs}
 use Rattle.meaning.specs.Bench.{full}
 use Rattle.lists.proofs.Answers.{ok-none, ok-past, ok-read, ok-refused}
-use Rattle.lists.proofs.fine.answer_ok.Statement.{statement}
-use Rattle.lists.proofs.fine.answer_ok.Tie as tie
+use Rattle.lists.proofs.line.answer_ok.Statement.{statement}
+use Rattle.lists.proofs.line.answer_ok.Tie as tie
 
 returns : tie.Need-returns
 returns c =
@@ -62,14 +62,14 @@ returns-3 c =
     let a = c .before .before .before .before .before .before .before .before .before .before .before .args in
     let g = c .before .before .before .r .given in
     let e = sym (c .before .before .before .before .before .judge-response .ensures) ∙ g .1 in
-    rw (c .before .node-at .ensures) (sym (ok-read full (a .store .now) (a .i) (a .place) (omega arith) (g .0 .0) (g .0 .1 .0) e))
+    rw (c .before .node-at .ensures) (sym (ok-read full (a .store .now) (a .i) (a .place) (g .0 .0) (g .0 .1 .0) e))
 
 returns-4 : tie.Need-returns-4
 returns-4 c =
     let a = c .before .before .before .before .before .before .before .before .args in
     let g = c .enum-told .given in
     let e = sym (c .before .before .judge-response .ensures) ∙ g .1 in
-    sym (ok-refused full (a .store .now) (a .i) (a .place) (omega arith) (g .0 .0) e)
+    sym (ok-refused full (a .store .now) (a .i) (a .place) (g .0 .0) e)
 
 pub answer-ok-spec : {M : Type 1} → statement M
 answer-ok-spec =
