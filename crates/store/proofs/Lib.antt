@@ -1,9 +1,4 @@
-pub mod Every
-pub mod Answers
-pub mod Order
-pub mod Laid
-pub mod Runs
-pub mod Rooms
-pub mod Joins
-pub mod Taken
-pub mod Swept
+-- Laws that belong to no one function.
+pub mod Changed
+pub mod Promised
+pub mod Loops

@@ -1,159 +1,42 @@
-// The answer store, changed: an answer joins its node's list, and all lists are emptied.
+// The answer store, changed: an answer joins its node's list, the oldest leaves it, all lists are emptied. Each keeps the layout: the nodes'
+// answers one behind the other from the front, and zeros behind them.
 use lists::room::has_room;
+use lists::room::place_of;
+use moves::insert;
+use moves::remove;
 use state::State;
-use state::node::Node;
-use state::node::Pending;
 use units::Words;
 ghost use mathlib.Core.Path.{_≡_};
-ghost use mathlib.Core.Bool.{true, false};
-ghost use mathlib.Core.List.{_++_, map};
-ghost use Prim.Native.Nat.{_+_, _*_, _≤_, _<_};
-ghost use lib.ListN.{length, getD, set};
+ghost use mathlib.Core.Bool.{true};
+ghost use mathlib.Core.List.{map};
+ghost use Prim.Native.Nat.{_≤_, _<_};
+ghost use lib.ListN.{length, getD};
 ghost use Rattle.meaning.specs.Bench.{full};
+ghost use Rattle.meaning.specs.Gateway.{swept, clearing, resetting};
 ghost use Rattle.meaning.specs.Response.{wellFormed};
-ghost use Rattle.state.specs.State.{freshNode, emptiedNode, resetNode};
-ghost use Rattle.state.specs.Consistent.{nodeAt, heldsOf, listsOk};
-ghost use Rattle.lists.specs.Room.{roomFor};
-ghost use Rattle.store.specs.Layout.{putIn, withNodes, joinedAt, nextPlace, freeOf, runOf, runsOf, packedFrom, wordsIn, EachInside};
-ghost use Rattle.store.specs.Joined.{Joinable, Joins, Queue};
+ghost use Rattle.state.specs.State.{freshNode};
+ghost use Rattle.state.specs.Machine.{nodesIn};
+ghost use Rattle.state.specs.Consistent.{nodeAt, counts};
+ghost use Rattle.lists.specs.Room.{roomFor, placeOf};
+ghost use Rattle.moves.specs.Moved.{removed};
+ghost use Rattle.store.specs.Changes.{Sound, Listed, joinedAt, Joinable, Queue, takenAt};
 
-// Copies all of src into dst from a place on.
-pub fn copy_in(src: &[u16], dst: &mut [u16], to: usize)
-    requires { ⌜ to + length (now src) ≤ length (now dst) ⌝ }
-    ensures { λ _. ⌜ now (dst .exit) ≡ putIn (now (dst .entry)) to (now (src .entry)) ⌝ }
+// An answer that has room joins behind its node's last; what lies behind moves up.
+fn join(s: State, i: usize, answer: &[u16], store: &mut [u16]) -> State
+    requires { ⌜ (i < 17) × Joinable full (now store) s i (now answer) ⌝ }
+    ensures { λ r. ⌜ Listed full (now (store .entry)) (now (store .exit)) s r (joinedAt (nodesIn (now (store .entry)) (s .nodes)) i (now (answer .entry))) ⌝ }
 {
-    let mut j = 0;
-    while j < src.len() {
-        let o = to + j;
-        dst[o] = src[j];
-        j += 1;
-    }
-}
-
-// Each node has a part of the store of its own, where its first answer goes as long as that is free.
-const OWN: usize = 240;
-
-fn next_place(list: Pending, i: usize) -> usize
-    requires { ⌜ (i < 17) × (list .place + list .words .0 ≤ full .store) ⌝ }
-    ensures { λ r. ⌜ r ≡ nextPlace (i * 240) list ⌝ }
-{
-    if list.count == 0 {
-        return i * OWN;
-    }
-    list.place + list.words.0
-}
-
-// Whether no list has one of so many words from a place on.
-fn is_free(nodes: [Node; 17], to: usize, words: Words) -> bool
-    requires { ⌜ EachInside (full .store) nodes × (to + words .0 ≤ full .store) ⌝ }
-    ensures { λ r. ⌜ r ≡ freeOf nodes to (words .0) ⌝ }
-{
-    let past = to + words.0;
-    let mut k: usize = 0;
-    while k < 17 {
-        let n = nodes[k];
-        let list = n.list;
-        if to < list.place + list.words.0 && list.place < past {
-            return false;
-        }
-        k += 1;
-    }
-    true
-}
-
-// Copies the words of a list, and more words behind them, into out from a place on; the result is the place after them.
-fn lay(list: Pending, more: &[u16], store: &[u16], out: &mut [u16], to: usize) -> usize
-    requires { ⌜ (list .place + list .words .0 ≤ length (now store)) × (to + list .words .0 + length (now more) ≤ length (now out)) ⌝ }
-    ensures { λ r. ⌜ (r ≡ to + list .words .0 + length (now (more .entry))) × (now (out .exit) ≡ putIn (now (out .entry)) to (runOf (now (store .entry)) list ++ now (more .entry))) ⌝ }
-{
-    let from = list.place;
-    let end = from + list.words.0;
-    copy_in(&store[from..end], out, to);
-    let behind = to + list.words.0;
-    copy_in(more, out, behind);
-    behind + more.len()
-}
-
-// Copies the words of all lists, node by node, to the front of out, the answer behind those of its node.
-fn lay_all(nodes: [Node; 17], i: usize, answer: &[u16], store: &[u16], out: &mut [u16])
-    requires { ⌜ (i < 17) × EachInside (length (now store)) nodes × (length (runsOf (now store) i (now answer) 0 nodes) ≤ length (now out)) ⌝ }
-    ensures { λ _. ⌜ now (out .exit) ≡ putIn (now (out .entry)) 0 (runsOf (now (store .entry)) i (now (answer .entry)) 0 nodes) ⌝ }
-{
-    let mut to: usize = 0;
-    let mut k: usize = 0;
-    while k < 17 {
-        let n = nodes[k];
-        let list = n.list;
-        let mut more: usize = 0;
-        if k == i {
-            more = answer.len();
-        }
-        to = lay(list, &answer[..more], store, out, to);
-        k += 1;
-    }
-}
-
-// The nodes, whose words lie one after the other.
-fn packed(nodes: [Node; 17]) -> [Node; 17]
-    requires { ⌜ wordsIn nodes ≤ full .store ⌝ }
-    ensures { λ r. ⌜ r ≡ packedFrom 0 nodes ⌝ }
-{
-    let mut ns = nodes;
-    let mut to: usize = 0;
-    let mut k: usize = 0;
-    while k < 17 {
-        let n = nodes[k];
-        let list = n.list;
-        let m = n.moved(to);
-        ns[k] = m;
-        to += list.words.0;
-        k += 1;
-    }
-    ns
-}
-
-// Puts an answer at a place of the store and at the end of a node's list.
-fn put(nodes: [Node; 17], i: usize, answer: &[u16], store: &mut [u16], to: usize) -> [Node; 17]
-    requires { ⌜ (i < 17) × (to + length (now answer) ≤ length (now store)) ⌝ }
-    requires { ⌜ getD nodes i freshNode .list .count < full .store ⌝ }
-    requires { ⌜ getD nodes i freshNode .list .words .0 + length (now answer) ≤ full .store ⌝ }
-    ensures { λ r. ⌜ (r ≡ set nodes i (joinedAt (getD nodes i freshNode) to (length (now (answer .entry))))) × (now (store .exit) ≡ putIn (now (store .entry)) to (now (answer .entry))) ⌝ }
-{
-    copy_in(answer, store, to);
-    let mut ns = nodes;
-    let n = nodes[i];
-    let m = n.joined(to, Words(answer.len()));
-    ns[i] = m;
-    ns
-}
-
-// All answers are laid one after the other, so that none is in the way, and the new one with them.
-fn repack(nodes: [Node; 17], i: usize, answer: &[u16], store: &mut [u16]) -> [Node; 17]
-    requires { ⌜ Joinable full (now store) nodes i (now answer) ⌝ }
-    ensures { λ r. ⌜ Joins full (now (store .entry)) (now (store .exit)) nodes r i (now (answer .entry)) ⌝ }
-{
-    let mut out = [0u16; Words::STORE.0];
-    lay_all(nodes, i, answer, store, &mut out);
-    copy_in(&out, store, 0);
-    let mut ns = nodes;
-    let n = nodes[i];
-    let m = n.joined(0, Words(answer.len()));
-    ns[i] = m;
-    packed(ns)
-}
-
-// Adds an answer that has room. Gaps in the store never refuse it.
-fn append(nodes: [Node; 17], i: usize, answer: &[u16], store: &mut [u16]) -> [Node; 17]
-    requires { ⌜ Joinable full (now store) nodes i (now answer) ⌝ }
-    ensures { λ r. ⌜ Joins full (now (store .entry)) (now (store .exit)) nodes r i (now (answer .entry)) ⌝ }
-{
-    let n = nodes[i];
-    let list = n.list;
-    let to = next_place(list, i);
-    if to + answer.len() <= Words::STORE.0 && is_free(nodes, to, Words(answer.len())) {
-        return put(nodes, i, answer, store, to);
-    }
-    repack(nodes, i, answer, store)
+    let held = s.held;
+    let at = place_of(held, i + 1);
+    let end = place_of(held, 17);
+    insert(store, at, end, answer);
+    let mut t = s;
+    let n = s.nodes[i];
+    let m = n.joined();
+    t.nodes[i] = m;
+    let h = held[i];
+    t.held[i] = Words(h.0 + answer.len() as u16);
+    t
 }
 
 pub struct Queued {
@@ -163,28 +46,58 @@ pub struct Queued {
 
 // Adds an answer at the end of a node's list where it has room; where not, nothing changes.
 pub fn queue(s: State, i: usize, answer: &[u16], store: &mut [u16]) -> Queued
-    requires { ⌜ (length (now store) ≡ full .store) × (listsOk full (now store) (s .nodes) ≡ true) × (i < 17)
-        × (wellFormed full (nodeAt full i) (now answer) ≡ true) ⌝ }
-    ensures { λ r. ⌜ (r .ok ≡ roomFor full (heldsOf (now (store .entry)) (s .nodes)) i (length (now (answer .entry)))) × Queue full (r .ok) (now (store .entry)) (now (store .exit)) s (r .state) i (now (answer .entry)) ⌝ }
+    requires { ⌜ Sound full (now store) s × (i < 17) × (wellFormed full (nodeAt full i) (now answer) ≡ true) ⌝ }
+    ensures { λ r. ⌜ (r .ok ≡ roomFor full (counts (s .held)) i (length (now (answer .entry)))) × Queue full (r .ok) (now (store .entry)) (now (store .exit)) s (r .state) i (now (answer .entry)) ⌝ }
 {
-    let nodes = s.nodes;
-    if !has_room(nodes, i, Words(answer.len())) {
+    let held = s.held;
+    if !has_room(held, i, Words(answer.len() as u16)) {
         return Queued {
             ok: false,
             state: s,
         };
     }
-    let ns = append(nodes, i, answer, store);
-    let mut t = s;
-    t.nodes = ns;
+    let t = join(s, i, answer, store);
     Queued { ok: true, state: t }
 }
 
-// 79: every list is emptied.
-pub fn clear(s: State) -> State
-    ensures { λ r. ⌜ r ≡ withNodes s (map emptiedNode (s .nodes)) ⌝ }
+// The oldest answer of a node that has one leaves; what lies behind moves down, and the freed words become 0.
+pub fn take(s: State, i: usize, store: &mut [u16]) -> State
+    requires { ⌜ Sound full (now store) s × (i < 17) × (0 < getD (s .nodes) i freshNode .answers) ⌝ }
+    ensures { λ r. ⌜ Listed full (now (store .entry)) (now (store .exit)) s r (takenAt (nodesIn (now (store .entry)) (s .nodes)) i) ⌝ }
 {
+    let held = s.held;
+    let at = place_of(held, i);
+    let end = place_of(held, 17);
+    let words = store[at];
+    remove(store, at, end, words as usize);
     let mut t = s;
+    let n = s.nodes[i];
+    let m = n.taken();
+    t.nodes[i] = m;
+    let h = held[i];
+    t.held[i] = Words(h.0 - words);
+    t
+}
+
+// All words that the nodes hold become 0, so that the whole store is.
+fn wipe_held(held: [Words; 17], store: &mut [u16])
+    requires { ⌜ placeOf (counts held) 17 ≤ length (now store) ⌝ }
+    ensures { λ _. ⌜ now (store .exit) ≡ removed (now (store .entry)) 0 (placeOf (counts held) 17) (placeOf (counts held) 17) ⌝ }
+{
+    let end = place_of(held, 17);
+    remove(store, 0, end, end);
+}
+
+// 79: every list is emptied, and every word of the store is 0.
+pub fn clear(s: State, store: &mut [u16]) -> State
+    requires { ⌜ Sound full (now store) s ⌝ }
+    ensures { λ r. ⌜ Listed full (now (store .entry)) (now (store .exit)) s r (map (swept clearing) (nodesIn (now (store .entry)) (s .nodes))) ⌝ }
+{
+    let held = s.held;
+    wipe_held(held, store);
+    let mut t = s;
+    let none = Words(0);
+    t.held = [none; 17];
     let mut k: usize = 0;
     while k < 17 {
         let n = s.nodes[k];
@@ -196,10 +109,15 @@ pub fn clear(s: State) -> State
 }
 
 // 61: the same, and every instance count starts again.
-pub fn reset(s: State) -> State
-    ensures { λ r. ⌜ r ≡ withNodes s (map resetNode (s .nodes)) ⌝ }
+pub fn reset(s: State, store: &mut [u16]) -> State
+    requires { ⌜ Sound full (now store) s ⌝ }
+    ensures { λ r. ⌜ Listed full (now (store .entry)) (now (store .exit)) s r (map (swept resetting) (nodesIn (now (store .entry)) (s .nodes))) ⌝ }
 {
+    let held = s.held;
+    wipe_held(held, store);
     let mut t = s;
+    let none = Words(0);
+    t.held = [none; 17];
     let mut i: usize = 0;
     while i < 17 {
         let n = s.nodes[i];
