@@ -9,16 +9,16 @@ use lib.ListN.{getD}
 use borrow.Author.Tests.{ne-eqb}
 use Rattle.units.proofs.Choice.{no-cond}
 use Rattle.meaning.specs.Bench.{full, hub, isReader}
-use Rattle.meaning.specs.Gateway as M
 use Rattle.state.specs.State.{freshReader, freshNode}
-use Rattle.state.specs.Machine.{Machine, meaning, nodeSlot, nodeOf}
+use Rattle.state.specs.Machine.{Machine, meaning, nodeSlot}
 use Rattle.state.specs.Consistent.{unfit}
 use Rattle.state.specs.declared.reader.Reader.{Reader}
 use Rattle.state.specs.declared.node.Node.{Node}
 use Rattle.state.proofs.Lists.{getD-any}
-use Rattle.state.proofs.InOrder.{blank}
+use Rattle.state.proofs.Read.{blank}
 use Rattle.promise.proofs.Parts.{parts}
-use Rattle.promise.proofs.Tables.{reader-range, reader-node, node-at}
+use Rattle.promise.proofs.Tables.{reader-range, reader-node}
+use Rattle.promise.proofs.Oldest.{count-is}
 
 -- ---- what `reader_slot` says of a node: past the array, it is no reader; inside, it is one, and this is its index
 module _ (n i : ℕ) (e : i ≡ cond (isReader full n) (n - 1) 16) where
@@ -52,9 +52,8 @@ module _ (m : Machine) (n i : ℕ) (fit : unfit full m ≡ 0) (is : isReader ful
 
   -- the count that its next answer bears
   pub count-there : meaning full m .nodes n .count ≡ getD (m .state .nodes) i blank .instance
-  unfolding nodeOf
   count-there =
       let r = reader-range full n is in
       let slot : nodeSlot full n ≡ i = no-cond 16 (ne-eqb n hub (λ e. absurd (omega arith))) ∙ sym at in
-      ap (λ (x : M.Node). x .count) (node-at full m n (reader-node full n is)) ∙ ap (λ (k : ℕ). getD (m .state .nodes) k freshNode .instance) slot
+      count-is full m fit n i (reader-node full n is) slot (getD (m .state .nodes) i freshNode) refl
       ∙ ap (λ (x : Node). x .instance) (getD-any (m .state .nodes) i freshNode blank (omega (arith, parts full m fit .eachNode)))

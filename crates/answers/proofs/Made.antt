@@ -19,12 +19,12 @@ use Rattle.meaning.specs.Response.{amountWrong, errorWrong, respondRefusal, res
 use Rattle.meaning.specs.declared.packet.Response.{Response}
 use Rattle.meaning.proofs.ResponseLaws.{count-responded, writes, read-responded}
 use Rattle.state.specs.Machine.{Machine}
-use Rattle.state.specs.Consistent.{nodeAt, heldsOf, unfit}
+use Rattle.state.specs.Consistent.{nodeAt, counts, unfit}
 use Rattle.lists.specs.Room.{roomFor}
-use Rattle.store.specs.Joined.{Queue}
+use Rattle.store.specs.Changes.{Queue}
 use Rattle.state.specs.declared.State.{State}
 use Rattle.lists.proofs.Answers.{read-formed}
-use Rattle.store.proofs.Every.{both}
+use Rattle.state.proofs.Lists.{both}
 use Rattle.promise.proofs.Parts.{parts}
 use Rattle.promise.proofs.Tables.{reader-range}
 use Rattle.promise.proofs.Answers.{reader-index}
@@ -76,10 +76,10 @@ module _ (store : List ℕ) (s : State) (i : ℕ) (r : Response) (bs : List ℕ)
 
 -- what is promised of words is promised of the same words
 pub of-words : {room : Bool} {store store′ : List ℕ} {s s′ : State} {i : ℕ} {v w : List ℕ} → v ≡ w
-    → (room ≡ roomFor full (heldsOf store (s .nodes)) i (length v)) × Queue full room store store′ s s′ i v
-    → (room ≡ roomFor full (heldsOf store (s .nodes)) i (length w)) × Queue full room store store′ s s′ i w
+    → (room ≡ roomFor full (counts (s .held)) i (length v)) × Queue full room store store′ s s′ i v
+    → (room ≡ roomFor full (counts (s .held)) i (length w)) × Queue full room store store′ s s′ i w
 of-words {room} {store} {store′} {s} {s′} {i} e q =
-    subst (λ (w : List ℕ). (room ≡ roomFor full (heldsOf store (s .nodes)) i (length w)) × Queue full room store store′ s s′ i w) e q
+    subst (λ (w : List ℕ). (room ≡ roomFor full (counts (s .held)) i (length w)) × Queue full room store store′ s s′ i w) e q
 
 -- a reader's answer, on a consistent machine
 pub answerable : (m : Machine) (n i : ℕ) → unfit full m ≡ 0 → isReader full n ≡ true → i ≡ n - 1 → (t : Stamp) → isStamp t ≡ true
@@ -89,8 +89,7 @@ unfolding amountWrong
 answerable m n i u is at t good echo count bytes h =
     let p = parts full m u in
     record {
-      size = p .store;
-      lists = p .lists;
+      sound = record { size = p .store; lists = p .lists };
       index = omega (arith, p .eachNode, reader-range full n is);
       node = sym (ap (nodeAt full) at ∙ reader-index full n is);
       stamp = good;

@@ -9,12 +9,12 @@ use Rattle.units.specs.Stamp.{isStamp}
 use Rattle.meaning.specs.Bench.{Bench}
 use Rattle.meaning.specs.Response.{amountWrong}
 use Rattle.meaning.specs.declared.packet.Response.{Response}
-use Rattle.state.specs.Consistent.{nodeAt, listsOk}
+use Rattle.state.specs.Consistent.{nodeAt}
 use Rattle.state.specs.declared.State.{State}
+use Rattle.store.specs.Changes.{Sound}
 
 pub record Answerable (b : Bench) (store : List ℕ) (s : State) (i : ℕ) (r : Response) (bytes : ℕ) : Type 0 where
-  pub size : length store ≡ b .store
-  pub lists : listsOk b store (s .nodes) ≡ true
+  pub sound : Sound b store s
   pub index : i < length (s .nodes)
   pub node : r .node ≡ nodeAt b i
   pub stamp : isStamp (r .stamp) ≡ true

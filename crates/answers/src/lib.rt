@@ -17,19 +17,19 @@ ghost use mathlib.Core.Bool.{cond};
 ghost use lib.ListN.{length};
 ghost use Rattle.meaning.specs.Bench.{full};
 ghost use Rattle.meaning.specs.Response.{responseBody};
-ghost use Rattle.state.specs.Consistent.{heldsOf};
+ghost use Rattle.state.specs.Consistent.{counts};
 ghost use Rattle.lists.specs.Room.{roomFor};
-ghost use Rattle.store.specs.Joined.{Queue};
+ghost use Rattle.store.specs.Changes.{Queue};
 ghost use Rattle.answers.specs.Answerable.{Answerable};
 
 // Joins the answer to the list of the node at index i where it has room; where not, nothing changes.
 pub fn answer(s: State, i: usize, r: Response, bytes: &[u8], store: &mut [u16]) -> Queued
     requires { ⌜ Answerable full (now store) s i r (length (now bytes)) ⌝ }
-    ensures { λ q. ⌜ (q .ok ≡ roomFor full (heldsOf (now (store .entry)) (s .nodes)) i (length (responseBody r (now (bytes .entry))))) × Queue full (q .ok) (now (store .entry)) (now (store .exit)) s (q .state) i (responseBody r (now (bytes .entry))) ⌝ }
+    ensures { λ q. ⌜ (q .ok ≡ roomFor full (counts (s .held)) i (length (responseBody r (now (bytes .entry))))) × Queue full (q .ok) (now (store .entry)) (now (store .exit)) s (q .state) i (responseBody r (now (bytes .entry))) ⌝ }
 {
-    let mut out = [0u16; Words::PACKET.0];
+    let mut out = [0u16; Words::PACKET.0 as usize];
     write_response(Form::Register, r, bytes, &mut out);
-    let n = overall(Bytes(bytes.len())).0;
+    let n = overall(Bytes(bytes.len() as u16)).0 as usize;
     queue(s, i, &out[..n], store)
 }
 

@@ -20,7 +20,7 @@ use Rattle.meaning.specs.declared.table.Row.{Row}
 use Rattle.meaning.specs.declared.packet.Command.{Command}
 use Rattle.meaning.proofs.Chain.{accepts, fine-at}
 use Rattle.meaning.proofs.CommandLaws.{Kept}
-use Rattle.store.proofs.Every.{All}
+use Rattle.state.proofs.Lists.{All}
 
 -- the row of a kind
 abbrev pub rowFor : Bench → Kind → Row

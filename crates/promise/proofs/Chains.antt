@@ -4,7 +4,7 @@ use Prim.Native.Nat.{ℕ, zero, suc, _*_}
 use mathlib.Core.Path.{_≡_, refl, sym, ap, _∙_, fun-ext}
 use mathlib.Core.Bool.{Bool, true, false, cond, false≢true}
 use mathlib.Core.List.{List, [], _∷_, map}
-use lib.ListN.{length, getD, replicate}
+use lib.ListN.{length, getD, replicate, length-replicate}
 use borrow.Author.Tests.{eq-eqb}
 use Rattle.units.specs.Count.{every}
 use Rattle.units.proofs.Choice.{yes-cond}
@@ -12,16 +12,18 @@ use Rattle.meaning.specs.Bench.{Bench, full, isReader, isNode}
 use Rattle.meaning.specs.Gateway as M
 use Rattle.meaning.specs.Gateway.{Gateway, fresh}
 use Rattle.meaning.specs.Call.{Call, Said, refused, answered, queued, Outcome, step, run}
+use Rattle.meaning.specs.Room.{added}
 use Rattle.demands.specs.Sound.{full-sound}
 use Rattle.demands.specs.Demand.{Line, line, log, kept, struck, stays, Ease}
 use Rattle.demands.proofs.Room.{refusal-changes-nothing}
 use Rattle.demands.proofs.Alone.{strike-out}
-use Rattle.state.specs.State.{freshReader, freshNode}
-use Rattle.state.specs.Machine.{Machine, meaning, seen, nodeSlot, readerSlot, nodesOf, readersOf, nodeOf, startsOf, pendingOf, readerOf, fieldOf, modeOf, regionOf, plain}
-use Rattle.state.specs.Consistent.{nodeOk, plaqueOk, readingOk, reportOk, readerOk, nameOk, unfit}
-use Rattle.store.proofs.Swept.{fresh-lists}
+use Rattle.state.specs.State.{nothing, freshReader, freshNode}
+use Rattle.state.specs.Machine.{Machine, meaning, seen, nodeSlot, readerSlot, nodesIn, nodesOf, readersOf, readerOf, fieldOf, modeOf, regionOf, plain}
+use Rattle.state.specs.Layout.{laid, allLaid, cuts, past}
+use Rattle.state.specs.Consistent.{formed, chargesOf, bounded, listsOk, nodeOk, plaqueOk, readingOk, reportOk, readerOk, nameOk, unfit}
+use Rattle.state.proofs.Read.{packed-ok}
 use Rattle.promise.specs.Obeyed.{turned, expected, Obeyed}
-use Rattle.promise.specs.Runs.{Heard, Chain, ended, calls, lines, freshMachine}
+use Rattle.promise.specs.Runs.{Heard, Chain, ended, calls, lines, zeroStore, freshMachine}
 use Rattle.promise.proofs.Parts.{fit}
 
 -- one call as promised on a machine that is in order is one step
@@ -88,19 +90,35 @@ module _ (b : Bench) where
   chain-fit m (h ∷ hs) u c = chain-fit (h .after) hs (stepped b (h .call) m (h .said) (h .after) u (c .0) .fit) (c .1)
 
 -- ---- a fresh machine, of the bench `full`: a fresh state has its arrays' lengths
-pub fresh-fit : (store memory : List ℕ) → length store ≡ full .store → length memory ≡ full .readers * full .region
-    → unfit full (freshMachine store memory) ≡ 0
+pub zeros-long : length zeroStore ≡ full .store
+unfolding zeroStore
+zeros-long = length-replicate {A = ℕ} (full .store) 0
+
+fresh-lists : listsOk full zeroStore (replicate 17 freshNode) (replicate 17 nothing) ≡ true
+unfolding zeroStore laid allLaid formed every bounded chargesOf added
+fresh-lists = packed-ok full zeroStore (replicate 17 freshNode) (replicate 17 nothing) (replicate 17 plain) (record {
+  size = zeros-long;
+  nodes = refl;
+  helds = refl;
+  spare = full .store;
+  words = refl;
+  formed = refl;
+  bounds = refl;
+})
+
+pub fresh-fit : (memory : List ℕ) → length memory ≡ full .readers * full .region → unfit full (freshMachine memory) ≡ 0
 unfolding every nodeOk readerOk plaqueOk readingOk reportOk nameOk
-fresh-fit store memory a b = fit full (freshMachine store memory) (record {
-  store = a;
+fresh-fit memory b = fit full (freshMachine memory) (record {
+  store = zeros-long;
   memory = b;
-  lists = fresh-lists store;
+  lists = fresh-lists;
   nodes = refl;
   readers = refl;
   name = refl;
   wide = refl;
   eachReader = refl;
   eachNode = refl;
+  eachHeld = refl;
 })
 
 in-row : {A : Type 0} (P : A → Type 0) (k i : ℕ) (x d : A) → P x → P d → P (getD (replicate k x) i d)
@@ -116,15 +134,16 @@ seen-row P ok slot k n x d p q = go (ok n)
     go true = in-row P k (slot n) x d p q
     go false = q
 
-map-row : {A B : Type 0} (f : A → B) (k : ℕ) (x : A) → map f (replicate k x) ≡ replicate k (f x)
-map-row f zero x = refl
-map-row f (suc k) x = ap (λ l. f x ∷ l) (map-row f k x)
+nodes-row : (w : List ℕ) (k : ℕ) → nodesIn w (replicate k freshNode) ≡ replicate k plain
+unfolding nodesIn cuts past
+nodes-row w zero = refl
+nodes-row w (suc k) = ap (λ (l : List M.Node). plain ∷ l) (nodes-row w k)
 
-pub fresh-means : (b : Bench) (store memory : List ℕ) → meaning b (freshMachine store memory) ≡ fresh (regionOf b memory)
-unfolding meaning fresh nodesOf readersOf nodeOf startsOf pendingOf readerOf fieldOf modeOf
-fresh-means b store memory =
-    let ns : seen (isNode b) (nodeSlot b) plain (map (nodeOf store) (replicate 17 freshNode)) ≡ (λ (n : ℕ). plain) =
-    ap (seen (isNode b) (nodeSlot b) plain) (map-row (nodeOf store) 17 freshNode)
+pub fresh-means : (b : Bench) (memory : List ℕ) → meaning b (freshMachine memory) ≡ fresh (regionOf b memory)
+unfolding meaning fresh nodesOf readersOf readerOf fieldOf modeOf
+fresh-means b memory =
+    let ns : seen (isNode b) (nodeSlot b) plain (nodesIn zeroStore (replicate 17 freshNode)) ≡ (λ (n : ℕ). plain) =
+    ap (seen (isNode b) (nodeSlot b) plain) (nodes-row zeroStore 17)
     ∙ fun-ext (λ n. seen-row (λ y. y ≡ plain) (isNode b) (nodeSlot b) 17 n plain plain refl refl) in
     let rs : (n : ℕ) → readerOf (seen (isReader b) readerSlot freshReader (replicate 16 freshReader) n) (regionOf b memory n)
     ≡ record { field = M.empty; mode = M.off; region = regionOf b memory n } =
@@ -138,20 +157,20 @@ fresh-means b store memory =
     ∙ ap (λ (f : ℕ → M.Reader). record { name = []; nodes = λ (n : ℕ). plain; reader = f }) (fun-ext rs)
 
 -- ---- demand 3 of the code: the lines of any chain from a fresh machine, those of other readers' calls left out, are the struck-out run's
-module _ (i : ℕ) (store memory : List ℕ) (words : length store ≡ full .store) (bytes : length memory ≡ full .readers * full .region) (hs : List Heard)
-    (chain : Chain full (freshMachine store memory) hs) where
+module _ (i : ℕ) (memory : List ℕ) (bytes : length memory ≡ full .readers * full .region) (hs : List Heard)
+    (chain : Chain full (freshMachine memory) hs) where
   pub fresh-lines : lines full i hs ≡ log full i (fresh (regionOf full memory)) (calls hs)
   fresh-lines =
-      chain-lines full i (freshMachine store memory) hs (fresh-fit store memory words bytes) chain
-      ∙ ap (λ (g : Gateway). log full i g (calls hs)) (fresh-means full store memory)
+      chain-lines full i (freshMachine memory) hs (fresh-fit memory bytes) chain
+      ∙ ap (λ (g : Gateway). log full i g (calls hs)) (fresh-means full memory)
 
   pub struck-lines : Ease full i (fresh (regionOf full memory)) (calls hs)
       → kept (λ l. stays full i (l .call)) (lines full i hs) ≡ log full i (fresh (regionOf full memory)) (struck full i (calls hs))
   struck-lines z = ap (kept (λ (l : Line). stays full i (l .call))) fresh-lines ∙ strike-out full full-sound i (regionOf full memory) (calls hs) z
 
-pub struck-chain : (i : ℕ) (store memory : List ℕ) → length store ≡ full .store → length memory ≡ full .readers * full .region → (hs js : List Heard)
-    → Chain full (freshMachine store memory) hs → Chain full (freshMachine store memory) js → calls js ≡ struck full i (calls hs)
+pub struck-chain : (i : ℕ) (memory : List ℕ) → length memory ≡ full .readers * full .region → (hs js : List Heard)
+    → Chain full (freshMachine memory) hs → Chain full (freshMachine memory) js → calls js ≡ struck full i (calls hs)
     → Ease full i (fresh (regionOf full memory)) (calls hs) → kept (λ l. stays full i (l .call)) (lines full i hs) ≡ lines full i js
-struck-chain i store memory words bytes hs js c d e z =
-    struck-lines i store memory words bytes hs c z
-    ∙ sym (fresh-lines i store memory words bytes js d ∙ ap (log full i (fresh (regionOf full memory))) e)
+struck-chain i memory bytes hs js c d e z =
+    struck-lines i memory bytes hs c z
+    ∙ sym (fresh-lines i memory bytes js d ∙ ap (log full i (fresh (regionOf full memory))) e)

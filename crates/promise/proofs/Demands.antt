@@ -41,46 +41,46 @@ chain-front b zero m hs c = tt
 chain-front b (suc k) m [] c = tt
 chain-front b (suc k) m (h ∷ hs) c = (c .0, chain-front b k (h .after) hs (c .1))
 
-module _ (store memory : List ℕ) (words : length store ≡ full .store) (bytes : length memory ≡ full .readers * full .region) (hs : List Heard)
-    (chain : Chain full (freshMachine store memory) hs) where
+module _ (memory : List ℕ) (bytes : length memory ≡ full .readers * full .region) (hs : List Heard)
+    (chain : Chain full (freshMachine memory) hs) where
   -- after a chain, the code's machine means what the run of its calls comes to
-  pub fresh-ends : reached store memory hs ≡ run full (fresh (regionOf full memory)) (calls hs)
+  pub fresh-ends : reached memory hs ≡ run full (fresh (regionOf full memory)) (calls hs)
   fresh-ends =
-      chain-ends full (freshMachine store memory) hs (fresh-fit store memory words bytes) chain
-      ∙ ap (λ (g : Gateway). run full g (calls hs)) (fresh-means full store memory)
+      chain-ends full (freshMachine memory) hs (fresh-fit memory bytes) chain
+      ∙ ap (λ (g : Gateway). run full g (calls hs)) (fresh-means full memory)
 
   -- "none is refused for room while its held words plus the new answer are at most 134"
-  pub code-never-refused : (h : Heard) → Obeyed full (h .call) (ended (freshMachine store memory) hs) (h .said) (h .after) → h .said ≡ refused 13
-      → (n : ℕ) × (g : Gateway) × (w : List ℕ) × (tried full (reached store memory hs) (h .call) ≡ Try.due n g w) × (134 < held (g .nodes n) + wordNo 1 w)
+  pub code-never-refused : (h : Heard) → Obeyed full (h .call) (ended (freshMachine memory) hs) (h .said) (h .after) → h .said ≡ refused 13
+      → (n : ℕ) × (g : Gateway) × (w : List ℕ) × (tried full (reached memory hs) (h .call) ≡ Try.due n g w) × (134 < held (g .nodes n) + wordNo 1 w)
   code-never-refused h o e =
-      let u = chain-fit full (freshMachine store memory) hs (fresh-fit store memory words bytes) chain in
-      let s = stepped full (h .call) (ended (freshMachine store memory) hs) (h .said) (h .after) u o in
+      let u = chain-fit full (freshMachine memory) hs (fresh-fit memory bytes) chain in
+      let s = stepped full (h .call) (ended (freshMachine memory) hs) (h .said) (h .after) u o in
       rw fresh-ends
       (never-refused (regionOf full memory) (calls hs) (h .call)
       (ap (λ (g : Gateway). (step full g (h .call)) .said) (sym fresh-ends) ∙ sym (s .says) ∙ e))
 
   -- instance counts are counted from the calls and what they said
-  pub code-counted : (n i : ℕ) → reached store memory hs .nodes n .count ≡ tally full n 0 (lines full i hs) % 256
+  pub code-counted : (n i : ℕ) → reached memory hs .nodes n .count ≡ tally full n 0 (lines full i hs) % 256
   code-counted n i =
       ap (λ (g : Gateway). g .nodes n .count) fresh-ends ∙ counted full n i (regionOf full memory) (calls hs)
-      ∙ ap (λ (ls : List Line). tally full n 0 ls % 256) (sym (fresh-lines i store memory words bytes hs chain))
+      ∙ ap (λ (ls : List Line). tally full n 0 ls % 256) (sym (fresh-lines i memory bytes hs chain))
 
   -- a node's pending answers are those made at it, in order, without those acknowledged or cleared ..
-  pub code-history : (n : ℕ) → Tells (past full n (fresh (regionOf full memory)) (calls hs) unmade) (reached store memory hs .nodes n .pending)
+  pub code-history : (n : ℕ) → Tells (past full n (fresh (regionOf full memory)) (calls hs) unmade) (reached memory hs .nodes n .pending)
   code-history n = rw fresh-ends (history full n (regionOf full memory) (calls hs))
 
   -- .. and its held words are those of these answers
   pub code-held : (n : ℕ) → let p = past full n (fresh (regionOf full memory)) (calls hs) unmade in
-      held (reached store memory hs .nodes n) ≡ added (drop (p .gone) (p .made))
+      held (reached memory hs .nodes n) ≡ added (drop (p .gone) (p .made))
   code-held n = ap added (code-history n .pending)
 
 -- "no node holds over 804 words of pending answers", nor do the charges pass the store: after every k calls of a chain, so at each of its machines
-pub code-never-over : (store memory : List ℕ) → length store ≡ full .store → length memory ≡ full .readers * full .region
-    → (hs : List Heard) → Chain full (freshMachine store memory) hs → (k : ℕ)
-    → ((n : ℕ) → held (reached store memory (take k hs) .nodes n) ≤ 804) × (charges full (reached store memory (take k hs)) ≤ 4096)
-code-never-over store memory words bytes hs chain k =
-    let c = chain-front full k (freshMachine store memory) hs chain in
-    let e = fresh-ends store memory words bytes (take k hs) c in
+pub code-never-over : (memory : List ℕ) → length memory ≡ full .readers * full .region
+    → (hs : List Heard) → Chain full (freshMachine memory) hs → (k : ℕ)
+    → ((n : ℕ) → held (reached memory (take k hs) .nodes n) ≤ 804) × (charges full (reached memory (take k hs)) ≤ 4096)
+code-never-over memory bytes hs chain k =
+    let c = chain-front full k (freshMachine memory) hs chain in
+    let e = fresh-ends memory bytes (take k hs) c in
     rw e (never-over (regionOf full memory) (calls (take k hs)), bounds-run full full-sound (regionOf full memory) (calls (take k hs)) .stored)
 
 -- "For 61 and 79 room is judged after emptying, so it is always there": on a consistent machine, as every machine of a chain is by
@@ -104,13 +104,13 @@ module _ (b : Bench) (ok : Sound b) (m : Machine) (t : Stamp) (f : Form) (ws : L
 
 -- strike-out at the end: after both chains reader i's node, its reader with the region, the gateway's own node and the name are the same.
 -- As the first calls of a chain are a chain, so they are at every point of them
-pub struck-end : (i : ℕ) (store memory : List ℕ) → length store ≡ full .store → length memory ≡ full .readers * full .region
-    → (hs js : List Heard) → Chain full (freshMachine store memory) hs → Chain full (freshMachine store memory) js
+pub struck-end : (i : ℕ) (memory : List ℕ) → length memory ≡ full .readers * full .region
+    → (hs js : List Heard) → Chain full (freshMachine memory) hs → Chain full (freshMachine memory) js
     → calls js ≡ struck full i (calls hs) → Ease full i (fresh (regionOf full memory)) (calls hs)
-    → Same i (reached store memory hs) (reached store memory js)
-struck-end i store memory words bytes hs js c d e z =
+    → Same i (reached memory hs) (reached memory js)
+struck-end i memory bytes hs js c d e z =
     let g : Gateway = fresh (regionOf full memory) in
-    let there : reached store memory js ≡ run full g (struck full i (calls hs)) =
-    fresh-ends store memory words bytes js d ∙ ap (run full g) e in
-    subst (λ (x : Gateway). Same i x (reached store memory js)) (sym (fresh-ends store memory words bytes hs c))
+    let there : reached memory js ≡ run full g (struck full i (calls hs)) =
+    fresh-ends memory bytes js d ∙ ap (run full g) e in
+    subst (λ (x : Gateway). Same i x (reached memory js)) (sym (fresh-ends memory bytes hs c))
     (subst (Same i (run full g (calls hs))) (sym there) (strike-out-state full full-sound i (regionOf full memory) (calls hs) z))

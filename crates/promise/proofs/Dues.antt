@@ -15,14 +15,14 @@ use Rattle.meaning.specs.Room.{charges, fits}
 use Rattle.meaning.specs.Call.{Said, refused, queued, Local, Try, Desk, idle, fromDesk, lifted, roomed, settled}
 use Rattle.demands.specs.Sound.{Sound}
 use Rattle.state.specs.State.{freshReader}
-use Rattle.state.specs.Machine.{Machine, machine, meaning, nodeSlot, readerOf, regionOf}
-use Rattle.state.specs.Consistent.{nodeAt, heldsOf, readerOk, nameOk, unfit}
+use Rattle.state.specs.Machine.{Machine, machine, meaning, nodeSlot, nodesIn, readerOf, regionOf}
+use Rattle.state.specs.Consistent.{nodeAt, counts, readerOk, nameOk, unfit}
 use Rattle.state.specs.declared.reader.Reader.{Reader}
 use Rattle.state.specs.declared.Name.{Name}
 use Rattle.state.specs.declared.State.{State}
 use Rattle.state.proofs.Formed.{formed-says}
 use Rattle.lists.specs.Room.{roomFor}
-use Rattle.store.specs.Joined.{Added, Queue}
+use Rattle.store.specs.Changes.{Listed, joinedAt, Queue}
 use Rattle.promise.specs.Obeyed.{turned, Does}
 use Rattle.promise.proofs.Parts.{parts, Means}
 use Rattle.promise.proofs.Tables.{reader-node, reader-slot, node-hub}
@@ -32,9 +32,13 @@ use Rattle.promise.proofs.Nodes.{withName, name-changed}
 use Rattle.promise.proofs.Promises.{does-refused, does-said, AtReader, AtHub}
 use Rattle.promise.proofs.Rooms.{room-same, added-changed}
 
+-- an answer w joined at the node of index i
+abbrev pub Added : Bench → List ℕ → List ℕ → State → State → ℕ → List ℕ → Type 0
+Added b store store′ s s′ i w = Listed b store store′ s s′ (joinedAt (nodesIn store (s .nodes)) i w)
+
 -- what `queue` promises, of an answer w for the node of index i
 abbrev pub Queued : Bench → Bool → List ℕ → List ℕ → State → State → ℕ → List ℕ → Type 0
-Queued b room store store′ s s′ i w = (room ≡ roomFor b (heldsOf store (s .nodes)) i (length w)) × Queue b room store store′ s s′ i w
+Queued b room store store′ s s′ i w = (room ≡ roomFor b (counts (s .held)) i (length w)) × Queue b room store store′ s s′ i w
 
 -- ---- the answer w of node n, due in the gateway h after the effect
 fits-nodes : (b : Bench) (n : ℕ) (w : List ℕ) (g h : Gateway) → g .nodes ≡ h .nodes → fits b n (join n w g) ≡ fits b n (join n w h)
@@ -57,10 +61,10 @@ module _ (b : Bench) (m : Machine) (n : ℕ) (h : Gateway) (w : List ℕ) where
 -- the machine m₁ has the effect, and the answer was queued at a state with its nodes
 module _ (b : Bench) (ok : Sound b) (n i : ℕ) (is : isNode b n ≡ true) (slot : nodeSlot b n ≡ i) (w : List ℕ) (formed : wellFormed b (nodeAt b i) w ≡ true) where
   pub room-due : (m₁ : Machine) (h : Gateway) → unfit b m₁ ≡ 0 → meaning b m₁ .nodes ≡ h .nodes
-      → fits b n (join n w h) ≡ roomFor b (heldsOf (m₁ .store) (m₁ .state .nodes)) i (length w)
+      → fits b n (join n w h) ≡ roomFor b (counts (m₁ .state .held)) i (length w)
   room-due m₁ h u e =
       sym (fits-nodes b n w (meaning b m₁) h e) ∙ room-same b m₁ n w is (parts b m₁ u) ok (formed-says b _ w formed)
-      ∙ ap (λ (j : ℕ). roomFor b (heldsOf (m₁ .store) (m₁ .state .nodes)) j (length w)) slot
+      ∙ ap (λ (j : ℕ). roomFor b (counts (m₁ .state .held)) j (length w)) slot
 
   pub joins : (m₁ : Machine) (h : Gateway) → Means b m₁ h → (store′ : List ℕ) (s′ : State) → Added b (m₁ .store) store′ (m₁ .state) s′ i w
       → Means b (machine s′ store′ (m₁ .memory)) (join n w h)
@@ -121,7 +125,7 @@ module _ (b : Bench) (ok : Sound b) (m : Machine) (fit : unfit b m ≡ 0) (n : �
       ap (λ (t : State). set (t .readers) (n - 1) x) (q .1 .yes e .rest)
       ∙ ap (set (m .state .readers) (n - 1)) (sym at) ∙ set-getD (m .state .readers) (n - 1) freshReader
       ∙ ap (λ (t : State). t .readers) (sym (q .1 .yes e .rest)) in
-      subst (λ (rs : List Reader). AtReader b m n l queued (machine (record { name = s′ .name; readers = rs; nodes = s′ .nodes }) store′ memory′)) kept
+      subst (λ (rs : List Reader). AtReader b m n l queued (machine (record { name = s′ .name; readers = rs; nodes = s′ .nodes; held = s′ .held }) store′ memory′)) kept
       (reader-queued e x (reader-in-order b m n is x at (parts b m fit)) memory′ h c)
 
   -- room: k bytes are written to its region
@@ -193,21 +197,17 @@ module _ (b : Bench) (ok : Sound b) (m : Machine) (fit : unfit b m ≡ 0) (l : L
         go true e = hub-answered c e
         go false e = subst (λ (k : State). AtHub b m l (refused 13) (machine k store′ (m .memory))) (sym (q .1 .no e .0)) (hub-13 e)
 
-  -- the effect is on all lists: s₁ is the state swept, to which the answer was queued
-  module _ (z : Sweep) (due : l ≡ Local.due (record { broom = z; title = meaning b m .name }) v) (s₁ : State)
-      (clean : Means b (machine s₁ (m .store) (m .memory)) (sweep z (meaning b m))) (q : Queued b room (m .store) store′ s₁ s′ (b .readers) w) where
+  -- the effect is on all lists: s₁ and store₁ are state and store swept, to which the answer was queued
+  module _ (z : Sweep) (due : l ≡ Local.due (record { broom = z; title = meaning b m .name }) v) (s₁ : State) (store₁ : List ℕ)
+      (clean : Means b (machine s₁ store₁ (m .memory)) (sweep z (meaning b m))) (q : Queued b room store₁ store′ s₁ s′ (b .readers) w) where
     swept-room : fits b hub (join hub w (fromDesk (record { broom = z; title = meaning b m .name }) (meaning b m))) ≡ room
     unfolding fromDesk
     swept-room =
-        room-due b ok hub (b .readers) (node-hub b) refl w formed (machine s₁ (m .store) (m .memory)) _ (clean .fit)
+        room-due b ok hub (b .readers) (node-hub b) refl w formed (machine s₁ store₁ (m .memory)) _ (clean .fit)
         (ap (λ (g : Gateway). g .nodes) (clean .means)) ∙ sym (q .0)
-
-    pub swept-13 : room ≡ false → AtHub b m l (refused 13) (machine (m .state) store′ (m .memory))
-    swept-13 e =
-        hub-by due _ _ (due-13 b m hub _ w (swept-room ∙ e) _ (ap (λ (k : List ℕ). machine (m .state) k (m .memory)) (q .1 .no e .1)))
 
     pub swept-queued : room ≡ true → AtHub b m l queued (machine s′ store′ (m .memory))
     unfolding fromDesk
     swept-queued e =
         hub-by due _ _ (due-queued b m hub _ w (swept-room ∙ e) _
-        (joins b ok hub (b .readers) (node-hub b) refl w formed (machine s₁ (m .store) (m .memory)) _ clean store′ s′ (q .1 .yes e)))
+        (joins b ok hub (b .readers) (node-hub b) refl w formed (machine s₁ store₁ (m .memory)) _ clean store′ s′ (q .1 .yes e)))

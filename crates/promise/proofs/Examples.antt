@@ -5,7 +5,7 @@ use mathlib.Core.Path.{_≡_, refl, sym, ap, _∙_, subst}
 use mathlib.Core.Bool.{Bool, true, _&&_, cond}
 use mathlib.Core.List.{List, [], _∷_, _++_, map}
 use lib.Dec.{lit<, leb}
-use lib.ListN.{replicate}
+use lib.ListN.{length, replicate}
 use borrow.Author.Tests.{leb-true}
 use Rattle.units.specs.Count as Count
 use Rattle.units.specs.Stamp as Stamps
@@ -23,7 +23,7 @@ use Rattle.meaning.specs.Cases.{search, reads}
 use Rattle.meaning.specs.CasesOfCalls as Cases
 use Rattle.meaning.specs.CasesOfCalls.{cmd, idA, clears}
 use Rattle.meaning.specs.Gateway as M
-use Rattle.meaning.specs.Gateway.{Gateway, clearing, sweep, setReader, join, onward, fresh}
+use Rattle.meaning.specs.Gateway.{Gateway, clearing, swept, sweep, setReader, join, onward, fresh}
 use Rattle.meaning.specs.Room as Room
 use Rattle.meaning.specs.Room.{held, shareOf, charges}
 use Rattle.meaning.specs.Call as C
@@ -33,23 +33,26 @@ use Rattle.demands.specs.Demand as D
 use Rattle.demands.specs.Demand.{Line, log, kept, stays, struck, ours, Eased, Ease, Same, ofOurs}
 use Rattle.demands.proofs.Alone.{strike-out}
 use Rattle.state.specs.State as States
-use Rattle.state.specs.State.{freshReader, freshNode, emptiedNode}
+use Rattle.state.specs.State.{nothing, freshReader, emptiedNode}
+use Rattle.state.specs.Layout as L
 use Rattle.state.specs.Machine as S
-use Rattle.state.specs.Machine.{Machine, machine, meaning, nodeSlot, regionOf}
+use Rattle.state.specs.Machine.{Machine, machine, meaning, nodeSlot, nodesIn, regionOf}
 use Rattle.state.specs.Consistent as Ok
 use Rattle.state.specs.Consistent.{unfit}
-use Rattle.store.specs.Layout.{withNodes}
-use Rattle.store.specs.Joined.{Added}
+use Rattle.state.specs.declared.State.{State}
+use Rattle.store.specs.Changes.{withLists, Sound, Listed, takenAt}
+use Rattle.store.proofs.Promised as Lists
 use Rattle.promise.specs.Obeyed as O
 use Rattle.promise.specs.Obeyed.{turned, expected, Obeyed}
-use Rattle.promise.specs.Runs.{Chain, calls, lines, reached}
-use Rattle.promise.specs.Examples.{zeroStore, zeroMemory, begun, visited, notFound, fourBytes, allCleared, holding, relieved}
+use Rattle.promise.specs.Runs.{Chain, calls, lines, zeroStore, reached}
+use Rattle.promise.specs.Examples.{zeroMemory, begun, visited, notFound, fourBytes, allCleared, holding, relieved, silent}
 use Rattle.promise.specs.Examples.{withPlaque, withNotFound, withBoth, withOther, withFour, withNone, visit, visitAlone}
 use Rattle.promise.specs.Examples.{crowding, goingOn, goingOnSaid, crowdStart, crowd, Crowded}
-use Rattle.promise.proofs.Parts.{parts}
+use Rattle.promise.proofs.Parts.{parts, Means}
 use Rattle.promise.proofs.Promises.{saying, obeying}
 use Rattle.promise.proofs.Steps.{same-reader}
 use Rattle.promise.proofs.Rooms.{added-changed}
+use Rattle.promise.proofs.Dues.{Added}
 use Rattle.promise.proofs.Sweeps.{cleared}
 use Rattle.promise.proofs.Tables.{node-hub}
 use Rattle.promise.proofs.Plaques.{arrived-0, left-14}
@@ -75,20 +78,32 @@ queues {m} {m′} {n} {w} {c} q =
     (added-changed full m n w (q .node) (parts full m (q .fits)) (m′ .store) (m′ .state) (q .added)))
 
 -- the answer to 79, made after the lists are emptied
+abbrev bare : Machine → State
+bare m = withLists (m .state) (map emptiedNode (m .state .nodes)) (replicate 17 nothing)
+
 record Clears (m : Machine) (w : List ℕ) (c : Call) (m′ : Machine) : Type 0 where
   fits : unfit full m ≡ 0
   steps : step full (meaning full m) c ≡ saying queued (join hub w (sweep clearing (meaning full m)))
-  added : Added full (m .store) (m′ .store) (withNodes (m .state) (map emptiedNode (m .state .nodes))) (m′ .state) 16 w
+  added : Added full zeroStore (m′ .store) (bare m) (m′ .state) 16 w
   kept : m′ .memory ≡ m .memory
 
 emptying : {m m′ : Machine} {w : List ℕ} {c : Call} → Clears m w c m′ → Obeyed full c m queued m′
-unfolding turned
+unfolding turned zeroStore
 emptying {m} {m′} {w} {c} q =
-    let clean = cleared full m (q .fits) in
-    let m₁ : Machine = machine (withNodes (m .state) (map emptiedNode (m .state .nodes))) (m .store) (m .memory) in
+    let p = parts full m (q .fits) in
+    let o : Sound full (m .store) (m .state) = record { size = p .store; lists = p .lists } in
+    let l = Lists.clears full (m .store) (m .state) o 17 (sym (p .eachNode)) in
+    let z = Lists.wiped full (m .store) (m .state) o 17 (sym (p .eachNode)) ∙ ap (λ (k : ℕ). replicate k 0) (p .store) in
+    let clean : Means full (machine (bare m) zeroStore (m .memory)) (sweep clearing (meaning full m)) =
+    cleared full m (q .fits) zeroStore (bare m) (subst (λ (t : List ℕ). Listed full (m .store) t (m .state) (bare m) (map (swept clearing) (nodesIn (m .store) (m .state .nodes)))) z l) in
+    let m₁ : Machine = machine (bare m) zeroStore (m .memory) in
     subst (λ (l : List ℕ). Obeyed full c m queued (machine (m′ .state) (m′ .store) l)) (sym (q .kept))
     (obeying full m c (q .fits) queued _ _ refl (q .steps ∙ ap (λ (g : Gateway). saying queued (join hub w g)) (sym (clean .means)))
     (added-changed full m₁ hub w (node-hub full) (parts full m₁ (clean .fit)) (m′ .store) (m′ .state) (q .added)))
+
+-- the oldest answer of node 2 gone
+abbrev Taken : Machine → Machine → Type 0
+Taken m m′ = Listed full (m .store) (m′ .store) (m .state) (m′ .state) (takenAt (nodesIn (m .store) (m .state .nodes)) 1)
 
 -- ---- a call of collect, which leaves the machine as it is
 collects : (m : Machine) (f : Form) (n room : ℕ) (s : Said) → expected full (collect f n room) m .said ≡ s
@@ -124,10 +139,12 @@ record Computed : Type 0 where
   readAlone : Queues withPlaque 2 fourBytes (cmd (reads 2 0 4)) withFour
   both : unfit full withBoth ≡ 0
   four : unfit full withFour ≡ 0
+  acked : Taken withBoth withOther
+  ackedAlone : Taken withFour withNone
   collected : expected full (collect Framed 2 134) withBoth .said ≡ answered (handed (0xFF02 ∷ fourBytes) 1)
   collectedAlone : expected full (collect Framed 2 134) withFour .said ≡ answered (handed (0xFF02 ∷ fourBytes) 1)
-  cleared : Clears withOther allCleared (cmd clears) (visited (relieved 2) (relieved 2) (holding 1 0 6) (allCleared ++ replicate 4090 0))
-  clearedAlone : Clears withNone allCleared (cmd clears) (visited (relieved 2) freshNode (holding 1 0 6) (allCleared ++ replicate 4090 0))
+  cleared : Clears withOther allCleared (cmd clears) (visited relieved relieved (holding 6) (allCleared ++ replicate 4090 0))
+  clearedAlone : Clears withNone allCleared (cmd clears) (visited relieved silent (holding 6) (allCleared ++ replicate 4090 0))
   visits : atEase full 2 (fresh (regionOf full zeroMemory)) (calls visit) ≡ true
   struckOut : calls visitAlone ≡ struck full 2 (calls visit)
   crowds : atEase full 1 crowdStart (crowding ++ goingOn) ≡ true
@@ -144,12 +161,12 @@ unfolding Count.every Stamps.lastDay Stamps.isStamp Refusal.refusal Packet.count
     Response.contentDoubts Response.responseDoubts Response.wellFormed Response.responseBody Response.bears Response.shown M.put M.joined
     Room.added Room.shareOf Room.charge Room.total Room.charges Room.fits C.asked C.judged C.collecting C.acknowledging C.same C.repeats
     C.ranged C.answer C.tagNotFound C.tagged C.obeyed C.looked C.left C.commandIn C.kindIn C.bytesIn C.atReader C.named C.serves C.whom
-    C.lifted C.heeded C.tried C.roomed C.settled C.step Cases.idA S.answerAt S.startsOf S.pendingOf S.nodeOf S.fieldOf S.reportOf S.modeOf
-    S.regionOf S.readerOf S.seen S.nodesOf S.readersOf S.meaning Ok.okAnswer Ok.overlap Ok.clearOf Ok.spots Ok.inOrder Ok.fineLists
-    Ok.heldsOf Ok.counted Ok.chargesOf Ok.bounded Ok.listClear Ok.listsOk Ok.nodeOk Ok.plaqueOk Ok.readingOk Ok.reportOk Ok.readerOk
+    C.lifted C.heeded C.tried C.roomed C.settled C.step Cases.idA L.laid L.allLaid L.storeOf L.cuts L.past S.nodesIn S.fieldOf S.reportOf
+    S.modeOf S.regionOf S.readerOf S.seen S.nodesOf S.readersOf S.meaning Ok.inLayout Ok.formed Ok.chargesOf Ok.bounded Ok.listed
+    Ok.listsOk Ok.nodeOk Ok.plaqueOk Ok.readingOk Ok.reportOk Ok.readerOk
     Ok.nameOk Ok.arrays Ok.consistent Ok.lengths Ok.lent Ok.unfit M.onward M.emptied M.swept C.ruled C.governed C.atHub C.fromDesk
     States.emptiedNode O.expected M.fresh M.taken C.arrived C.run D.kept D.spared D.stays D.struck D.line D.log atEaseT atEase visit
-    visitAlone crowding goingOn
+    visitAlone crowding goingOn zeroStore
 computed = record {
   searched = record {
     fits = refl;
@@ -174,6 +191,8 @@ computed = record {
   };
   both = refl;
   four = refl;
+  acked = record { lists = refl; nodes = refl; rest = refl; long = refl };
+  ackedAlone = record { lists = refl; nodes = refl; rest = refl; long = refl };
   collected = refl;
   collectedAlone = refl;
   cleared = record { fits = refl; steps = refl; added = record { lists = refl; nodes = refl; rest = refl; long = refl }; kept = refl };
@@ -190,7 +209,7 @@ computed = record {
 arrives : Obeyed full (arrive 2 idA (0x11 ∷ 0x22 ∷ 0x33 ∷ 0x44 ∷ [])) begun (answered done) withPlaque
 unfolding Cases.idA
 arrives =
-    arrived-0 full begun 2 (fresh-fit zeroStore zeroMemory refl refl) idA (0x11 ∷ 0x22 ∷ 0x33 ∷ 0x44 ∷ [])
+    arrived-0 full begun 2 (fresh-fit zeroMemory refl) idA (0x11 ∷ 0x22 ∷ 0x33 ∷ 0x44 ∷ [])
     refl refl refl freshReader refl _ refl
 
 pub visit-chain : Chain full begun visit
@@ -206,7 +225,7 @@ visit-chain = (
         (
           collects withBoth Framed 2 134 _ (computed .collected),
           (
-            acked-0 full withBoth (computed .both) 2 1 1 refl refl (holding 1 7 8) refl (lit< tt) refl,
+            acked-0 full withBoth (computed .both) 2 1 1 refl refl (holding 8 .0) refl (lit< tt) refl _ _ (computed .acked),
             (
               emptying (computed .cleared),
               tt,
@@ -227,7 +246,7 @@ visit-alone = (
     (
       collects withFour Framed 2 134 _ (computed .collectedAlone),
       (
-        acked-0 full withFour (computed .four) 2 1 1 refl refl (holding 1 0 8) refl (lit< tt) refl,
+        acked-0 full withFour (computed .four) 2 1 1 refl refl (holding 8 .0) refl (lit< tt) refl _ _ (computed .ackedAlone),
         (
           emptying (computed .clearedAlone),
           tt,
@@ -243,10 +262,10 @@ visit-ease = ease-by full 2 (fresh (regionOf full zeroMemory)) (calls visit) (co
 
 -- strike-out of the code: reader 3's calls struck out, the lines of reader 2 are the same, and so is its part at the end
 pub visit-struck : kept (λ l. stays full 2 (l .call)) (lines full 2 visit) ≡ lines full 2 visitAlone
-visit-struck = struck-chain 2 zeroStore zeroMemory refl refl visit visitAlone visit-chain visit-alone (computed .struckOut) visit-ease
+visit-struck = struck-chain 2 zeroMemory refl visit visitAlone visit-chain visit-alone (computed .struckOut) visit-ease
 
-pub visit-end : Same 2 (reached zeroStore zeroMemory visit) (reached zeroStore zeroMemory visitAlone)
-visit-end = struck-end 2 zeroStore zeroMemory refl refl visit visitAlone visit-chain visit-alone (computed .struckOut) visit-ease
+pub visit-end : Same 2 (reached zeroMemory visit) (reached zeroMemory visitAlone)
+visit-end = struck-end 2 zeroMemory refl visit visitAlone visit-chain visit-alone (computed .struckOut) visit-ease
 
 -- the crowd: nodes 3 and 4 hold 804 words, node 5 holds 612, and the store is charged in full; then 3 and 5 are refused room, and reader 1
 -- is not ..
@@ -278,6 +297,6 @@ crowd-code =
       calls-alone = f;
       chain-among = c;
       chain-alone = d;
-      same-lines = struck-chain 1 zeroStore zeroMemory refl refl hs js c d q z;
-      same-end = struck-end 1 zeroStore zeroMemory refl refl hs js c d q z;
+      same-lines = struck-chain 1 zeroMemory refl hs js c d q z;
+      same-end = struck-end 1 zeroMemory refl hs js c d q z;
     }

@@ -1,78 +1,41 @@
--- One node changed, as by an acknowledgement; and the name changed.
+-- The lists changed, and nothing else: one node's, as an answer joins or leaves, or all of them; and the name changed.
 -- Assumes nothing.
-use Prim.Native.Nat.{ℕ, zero, suc, _+_, _<_}
-use mathlib.Core.Path.{_≡_, refl, ap, _∙_}
-use mathlib.Core.Bool.{Bool, true, false, cond}
+use Prim.Native.Nat.{ℕ, _+_}
+use mathlib.Core.Path.{_≡_, refl, sym, ap, _∙_, subst}
+use mathlib.Core.Bool.{Bool, true, false, _&&_, cond}
 use mathlib.Core.List.{List, [], _∷_, map}
 use native.Mathlib.Omega.{arith}
 use lib.Dec.{leb, eqb}
-use lib.ListN.{length, getD, take, set, length-map}
+use lib.ListN.{length, getD, take, set, length-map, length-set}
 use borrow.Author.Tests.{le-leb}
 use Rattle.units.specs.Count.{every}
+use Rattle.units.specs.declared.Words.{Words}
+use Rattle.units.proofs.Choice.{and-true}
 use Rattle.meaning.specs.Bench.{Bench, isNode}
 use Rattle.meaning.specs.Gateway as M
-use Rattle.meaning.specs.Gateway.{put, setNode, setName, onward}
-use Rattle.state.specs.Machine.{Machine, machine, meaning, seen, nodeSlot, nodesOf, readersOf, nodeOf, answerAt, startsOf, pendingOf, plain}
-use Rattle.state.specs.Consistent.{listsOk, nodeOk, nameOk, unfit}
-use Rattle.state.specs.declared.node.Pending.{Pending}
+use Rattle.meaning.specs.Gateway.{Gateway, put, setNode, setName, onward, Sweep, clearing, resetting, none, emptied, swept, sweep}
+use Rattle.state.specs.Machine.{Machine, machine, meaning, seen, nodeSlot, nodesIn, nodesOf, readersOf, plain}
+use Rattle.state.specs.Consistent.{nodeOk, nameOk, unfit}
 use Rattle.state.specs.declared.node.Node.{Node}
 use Rattle.state.specs.declared.Name.{Name}
 use Rattle.state.specs.declared.State.{State}
-use Rattle.state.proofs.Lists.{map-set}
-use Rattle.store.specs.Layout.{withNodes}
+use Rattle.state.proofs.Lists.{both, every-get, every-set}
+use Rattle.state.proofs.Read.{length-nodes, Packed, packed-of}
+use Rattle.meaning.specs.Room.{held}
+use Rattle.store.specs.Changes.{Listed}
 use Rattle.promise.proofs.Parts.{Parts, parts, fit, Means}
-use Rattle.promise.proofs.Tables.{seen-set, node-inj, node-inside}
+use Rattle.promise.proofs.Tables.{seen-set, seen-map, node-inj, node-inside}
 
--- ---- the answers of a list
-pub pending-none : (store : List ℕ) (l : Pending) → l .count ≡ 0 → pendingOf store l ≡ []
-unfolding pendingOf startsOf
-pending-none store l e = ap (λ (k : ℕ). map (answerAt store) (startsOf store k (l .place))) e
+-- ---- handover numbers: 1 at least, as the code judges the nodes, by what they mean
+unfoldable pub numbered : M.Node → Bool
+numbered x = leb 1 (x .handover)
 
--- the oldest begins where the list does
-first-of : (store : List ℕ) (k p : ℕ) → 0 < k → (ws : List (List ℕ)) × (map (answerAt store) (startsOf store k p) ≡ answerAt store p ∷ ws)
-unfolding startsOf
-first-of store zero p h = absurd (omega arith)
-first-of store (suc k) p h = (map (answerAt store) (startsOf store k (p + getD store p 0)), refl)
+handovers : (w : List ℕ) (ns : List Node) → every nodeOk ns ≡ every numbered (nodesIn w ns)
+unfolding every nodeOk numbered nodesIn
+handovers w [] = refl
+handovers w (n ∷ ns) = ap (λ t. nodeOk n && t) (handovers _ ns)
 
-pub pending-some : (store : List ℕ) (l : Pending) → 0 < l .count
-    → (ws : List (List ℕ)) × (pendingOf store l ≡ answerAt store (l .place) ∷ ws)
-unfolding pendingOf
-pending-some store l h = first-of store (l .count) (l .place) h
-
--- ---- nodes replaced
-module _ (b : Bench) (m : Machine) where
-  pub node-means : (n : ℕ) (x : Node) → isNode b n ≡ true → Parts b m
-      → meaning b (machine (withNodes (m .state) (set (m .state .nodes) (nodeSlot b n) x)) (m .store) (m .memory)) ≡ setNode n (nodeOf (m .store) x) (meaning b m)
-  unfolding meaning nodesOf
-  node-means n x is p =
-      let ns : List M.Node = map (nodeOf (m .store)) (m .state .nodes) in
-      let l : length ns ≡ b .readers + 1 = rw length-map (p .eachNode) in
-      let e : seen (isNode b) (nodeSlot b) plain (map (nodeOf (m .store)) (set (m .state .nodes) (nodeSlot b n) x))
-      ≡ put n (nodeOf (m .store) x) (seen (isNode b) (nodeSlot b) plain ns) =
-      ap (seen (isNode b) (nodeSlot b) plain) (map-set (nodeOf (m .store)) (m .state .nodes) (nodeSlot b n) x)
-      ∙ seen-set (isNode b) (nodeSlot b) plain ns n (nodeOf (m .store) x) is (node-inside b n (length ns) is l) (λ k q r. node-inj b k n is q r) in
-      ap (λ (f : ℕ → M.Node). record {
-        name = take (m .state .name .length .0) (m .state .name .bytes);
-        nodes = f;
-        reader = readersOf b (m .memory) (m .state .readers);
-      })
-      e
-
-  pub node-fit : (ns : List Node) → Parts b m → length ns ≡ length (m .state .nodes) → listsOk b (m .store) ns ≡ true → every nodeOk ns ≡ true
-      → Parts b (machine (withNodes (m .state) ns) (m .store) (m .memory))
-  node-fit ns p l o k = record {
-    store = p .store;
-    memory = p .memory;
-    lists = o;
-    nodes = k;
-    readers = p .readers;
-    name = p .name;
-    wide = p .wide;
-    eachReader = p .eachReader;
-    eachNode = l ∙ p .eachNode;
-  }
-
--- the handover number that follows is one
+-- the number that follows is one
 pub onward-ok : (h : ℕ) → leb 1 (onward h) ≡ true
 unfolding onward
 onward-ok h = go (eqb h 65535)
@@ -81,9 +44,96 @@ onward-ok h = go (eqb h 65535)
     go true = refl
     go false = le-leb 1 (h + 1) (omega arith)
 
+swept-numbered : (z : Sweep) (x : M.Node) → numbered x ≡ true → numbered (swept z x) ≡ true
+unfolding swept emptied numbered
+swept-numbered none x h = h
+swept-numbered clearing x h = go (x .pending)
+  where
+    go : (as' : List (List ℕ)) → leb 1 ((emptied x as') .handover) ≡ true
+    go [] = h
+    go (a ∷ r) = onward-ok (x .handover)
+swept-numbered resetting x h = go (x .pending)
+  where
+    go : (as' : List (List ℕ)) → leb 1 ((emptied x as') .handover) ≡ true
+    go [] = h
+    go (a ∷ r) = onward-ok (x .handover)
+
+every-swept : (z : Sweep) (ms : List M.Node) → every numbered ms ≡ true → every numbered (map (swept z) ms) ≡ true
+unfolding every
+every-swept z [] h = refl
+every-swept z (x ∷ ms) h = let p = and-true (numbered x) (every numbered ms) h in both (swept-numbered z x (p .0)) (every-swept z ms (p .1))
+
+-- ---- other lists, which mean ms
+module _ (b : Bench) (m : Machine) (p : Parts b m) where
+  abbrev now : List M.Node
+  now = nodesIn (m .store) (m .state .nodes)
+
+  pub many : length now ≡ b .readers + 1
+  many = length-nodes (m .store) (m .state .nodes) ∙ p .eachNode
+
+  pub all-numbered : every numbered now ≡ true
+  all-numbered = subst (λ (t : Bool). t ≡ true) (handovers (m .store) (m .state .nodes)) (p .nodes)
+
+  -- the gateway with other nodes
+  abbrev among : (ℕ → M.Node) → Gateway
+  among f = record { name = meaning b m .name; nodes = f; reader = meaning b m .reader }
+
+  module _ (store′ : List ℕ) (s′ : State) (ms : List M.Node) (a : Listed b (m .store) store′ (m .state) s′ ms) where
+    listed-means : meaning b (machine s′ store′ (m .memory)) ≡ among (seen (isNode b) (nodeSlot b) plain ms)
+    unfolding meaning nodesOf
+    listed-means =
+        ap (λ (t : State). record {
+          name = take (t .name .length .0) (t .name .bytes);
+          nodes = nodesOf b store′ (s′ .nodes);
+          reader = readersOf b (m .memory) (t .readers);
+        })
+        (a .rest)
+        ∙ ap (λ (l : List M.Node). among (seen (isNode b) (nodeSlot b) plain l)) (a .nodes)
+
+    listed-fit : length ms ≡ b .readers + 1 → every numbered ms ≡ true → Parts b (machine s′ store′ (m .memory))
+    listed-fit l h =
+        let q = packed-of b store′ (s′ .nodes) (s′ .held) (a .long ∙ p .store) (a .lists) in
+        let n : length (nodesIn store′ (s′ .nodes)) ≡ b .readers + 1 = ap length (a .nodes) ∙ l in
+        let k : length (s′ .nodes) ≡ b .readers + 1 = rw length-nodes at n in
+        let c : length (s′ .held) ≡ b .readers + 1 = sym (length-map (s′ .held) (λ (w : Words). w .0)) ∙ ap length (q .helds) ∙ length-map (nodesIn store′ (s′ .nodes)) held ∙ n in
+        let o : every nodeOk (s′ .nodes) ≡ true = handovers store′ (s′ .nodes) ∙ ap (every numbered) (a .nodes) ∙ h in
+        subst (λ (t : State). Parts b (machine t store′ (m .memory))) (sym (a .rest)) (record {
+          store = a .long ∙ p .store;
+          memory = p .memory;
+          lists = a .lists;
+          nodes = o;
+          readers = p .readers;
+          name = p .name;
+          wide = p .wide;
+          eachReader = p .eachReader;
+          eachNode = k;
+          eachHeld = c;
+        })
+
+  -- node n is another
+  module _ (n : ℕ) (is : isNode b n ≡ true) (x : M.Node) (h : numbered x ≡ true) (store′ : List ℕ) (s′ : State)
+      (a : Listed b (m .store) store′ (m .state) s′ (set now (nodeSlot b n) x)) where
+    pub node-changed : Means b (machine s′ store′ (m .memory)) (setNode n x (meaning b m))
+    unfolding meaning nodesOf
+    node-changed = record {
+      fit = fit b _ (listed-fit store′ s′ _ a (length-set now (nodeSlot b n) x ∙ many) (every-set numbered now (nodeSlot b n) x all-numbered h));
+      means = listed-means store′ s′ _ a
+          ∙ ap among (seen-set (isNode b) (nodeSlot b) plain now n x is (node-inside b n (length now) is many) (λ k q r. node-inj b k n is q r));
+    }
+
+  -- every list is emptied
+  module _ (z : Sweep) (d : swept z plain ≡ plain) (store′ : List ℕ) (s′ : State)
+      (a : Listed b (m .store) store′ (m .state) s′ (map (swept z) now)) where
+    pub nodes-swept : Means b (machine s′ store′ (m .memory)) (sweep z (meaning b m))
+    unfolding meaning nodesOf
+    nodes-swept = record {
+      fit = fit b _ (listed-fit store′ s′ _ a (length-map now (swept z) ∙ many) (every-swept z now all-numbered));
+      means = listed-means store′ s′ _ a ∙ ap among (seen-map (isNode b) (nodeSlot b) plain now (swept z) d);
+    }
+
 -- ---- the name replaced
 abbrev pub withName : State → Name → State
-withName s t = record { name = t; readers = s .readers; nodes = s .nodes }
+withName s t = record { name = t; readers = s .readers; nodes = s .nodes; held = s .held }
 
 module _ (b : Bench) (m : Machine) (t : Name) where
   pub name-means : meaning b (machine (withName (m .state) t) (m .store) (m .memory)) ≡ setName (take (t .length .0) (t .bytes)) (meaning b m)
@@ -101,6 +151,7 @@ module _ (b : Bench) (m : Machine) (t : Name) where
     wide = l;
     eachReader = p .eachReader;
     eachNode = p .eachNode;
+    eachHeld = p .eachHeld;
   }
 
   pub name-changed : unfit b m ≡ 0 → nameOk t ≡ true → length (t .bytes) ≡ 64 → (s : List ℕ) → take (t .length .0) (t .bytes) ≡ s

@@ -7,107 +7,88 @@ use mathlib.Core.List.{List, [], _∷_, _++_}
 use native.Mathlib.Omega.{arith}
 use native.Mathlib.Nat.{zero-add}
 use lib.Dec.{leb, eqb}
-use lib.ListN.{length, getD, drop, set, length-set}
+use lib.ListN.{length, getD, drop, set}
 use borrow.Author.Tests.{eqb-true, eq-eqb, ne-eqb, le-leb, lt-leb}
 use Rattle.units.specs.Word.{word}
 use Rattle.units.specs.declared.Form.{Form}
 use Rattle.units.proofs.Choice.{yes-cond, no-cond}
 use Rattle.meaning.specs.Bench.{Bench, isNode}
 use Rattle.meaning.specs.Response.{bears, shown}
-use Rattle.meaning.specs.Room.{added}
 use Rattle.meaning.specs.Gateway as M
 use Rattle.meaning.specs.Gateway.{setNode, taken}
 use Rattle.meaning.specs.Call.{collect, acknowledge, Said, refused, answered, done, handed, Outcome, step}
 use Rattle.state.specs.State.{freshNode}
-use Rattle.state.specs.Machine.{Machine, machine, meaning, nodeSlot, nodeOf, answerAt, placesOf, pendingOf}
-use Rattle.state.specs.Consistent.{counted, nodeOk, listsOk, unfit}
+use Rattle.state.specs.Machine.{Machine, machine, meaning, nodeSlot, nodesIn, plain}
+use Rattle.state.specs.Consistent.{unfit}
 use Rattle.state.specs.declared.node.Node.{Node}
-use Rattle.state.proofs.Lists.{every-get}
-use Rattle.state.proofs.InOrder.{listAt, fine-ok}
-use Rattle.state.proofs.Formed.{Lies, lies, first-word}
-use Rattle.state.proofs.Starts.{span-none, starts-at}
-use Rattle.store.specs.Layout.{withNodes, putIn}
-use Rattle.store.proofs.Every.{every-set}
-use Rattle.store.proofs.Order.{lists-parts}
-use Rattle.store.proofs.Taken.{takenNode, taken-node, taken-lists}
+use Rattle.state.specs.declared.State.{State}
+use Rattle.state.proofs.Read.{nodeFor, node-for}
+use Rattle.moves.specs.Moved.{putIn}
+use Rattle.store.specs.Changes.{Sound, Listed, takenAt}
+use Rattle.store.proofs.Promised.{Take, taking}
 use Rattle.promise.specs.Obeyed.{turned, Does, expected, Obeyed, replied, written, Collects}
 use Rattle.promise.specs.declared.Handout.{Handout}
-use Rattle.promise.proofs.Parts.{parts, fit, Means}
+use Rattle.promise.proofs.Parts.{parts, Means}
 use Rattle.promise.proofs.Tables.{node-inside, node-at}
-use Rattle.promise.proofs.Nodes.{pending-none, pending-some, node-means, node-fit, onward-ok}
+use Rattle.promise.proofs.Nodes.{numbered, onward-ok, node-changed}
 use Rattle.promise.proofs.Promises.{saying, turning, obeying}
 use Rattle.promise.proofs.Steps.{acknowledge-7, acknowledge-14, acknowledge-15, acknowledge-0, collect-7, collect-14, collect-16, collect-0, collect-keeps}
 
 -- ---- node n, which stands at index i as x
 module _ (b : Bench) (m : Machine) (fits : unfit b m ≡ 0) (n i : ℕ) (is : isNode b n ≡ true) (slot : nodeSlot b n ≡ i)
     (x : Node) (at : getD (m .state .nodes) i freshNode ≡ x) where
-  pub node-is : meaning b m .nodes n ≡ nodeOf (m .store) x
-  node-is = node-at b m n is ∙ ap (λ (j : ℕ). nodeOf (m .store) (getD (m .state .nodes) j freshNode)) slot ∙ ap (nodeOf (m .store)) at
+  abbrev ms : List M.Node
+  ms = nodesIn (m .store) (m .state .nodes)
 
-  pub pending-is : meaning b m .nodes n .pending ≡ pendingOf (m .store) (x .list)
-  unfolding nodeOf
-  pending-is = ap (λ (y : M.Node). y .pending) node-is
+  pub node-is : meaning b m .nodes n ≡ getD ms i plain
+  node-is = node-at b m n is ∙ ap (λ (j : ℕ). getD ms j plain) slot
+
+  -- it counts what it means
+  node-counts : x ≡ nodeFor (meaning b m .nodes n)
+  node-counts = sym at ∙ node-for (m .store) (m .state .nodes) i ∙ ap nodeFor (sym node-is)
 
   pub handover-is : meaning b m .nodes n .handover ≡ x .handover
-  unfolding nodeOf
-  handover-is = ap (λ (y : M.Node). y .handover) node-is
+  handover-is = ap (λ (y : Node). y .handover) (sym node-counts)
 
   pub count-is : meaning b m .nodes n .count ≡ x .instance
-  unfolding nodeOf
-  count-is = ap (λ (y : M.Node). y .count) node-is
+  count-is = ap (λ (y : Node). y .instance) (sym node-counts)
+
+  pub pending-long : length (meaning b m .nodes n .pending) ≡ x .answers
+  pending-long = ap (λ (y : Node). y .answers) (sym node-counts)
+
+  pub pending-none : x .answers ≡ 0 → meaning b m .nodes n .pending ≡ []
+  pending-none e = go (meaning b m .nodes n .pending) (pending-long ∙ e)
+    where
+      go : (as' : List (List ℕ)) → length as' ≡ 0 → as' ≡ []
+      go [] h = refl
+      go (a ∷ r) h = absurd (omega arith)
 
   pub index-inside : i < length (m .state .nodes)
   index-inside = subst (λ (j : ℕ). j < length (m .state .nodes)) slot (node-inside b n (length (m .state .nodes)) is (parts b m fits .eachNode))
 
-  -- its count of its words is right
-  pub words-are : x .list .words .0 ≡ added (pendingOf (m .store) (x .list))
-  unfolding counted
-  words-are =
-      subst (λ (y : Node). y .list .words .0 ≡ added (pendingOf (m .store) (y .list))) at
-      (eqb-true _ _
-      (every-get (counted (m .store)) (m .state .nodes) i freshNode (lists-parts b (m .store) (m .state .nodes) (parts b m fits .lists) .1) index-inside))
+  pub lists-sound : Sound b (m .store) (m .state)
+  lists-sound = let p = parts b m fits in record { size = p .store; lists = p .lists }
 
-  module _ (some : 0 < x .list .count) where
-    -- the oldest answer
+  module _ (some : 0 < x .answers) where
+    -- its oldest answer, and the store without it
+    pub takes : Take b (m .store) (m .state) lists-sound i index-inside (b .readers + 1)
+    takes =
+        taking b (m .store) (m .state) lists-sound i index-inside (subst (λ (y : Node). 0 < y .answers) (sym at) some) _ (sym (parts b m fits .eachNode))
+
     abbrev pub oldest : List ℕ
-    oldest = answerAt (m .store) (x .list .place)
+    oldest = takes .oldest
 
     pub oldest-first : (ws : List (List ℕ)) × (meaning b m .nodes n .pending ≡ oldest ∷ ws)
-    oldest-first = let p = pending-some (m .store) (x .list) some in (p .0, pending-is ∙ p .1)
-
-    pub oldest-lies : Lies b (m .store) i (x .list .place)
-    oldest-lies =
-        let store = m .store in
-        let ns = m .state .nodes in
-        let o = lists-parts b store ns (parts b m fits .lists) .0 in
-        let k : 0 < listAt ns i .count = subst (λ (y : Node). 0 < y .list .count) (sym at) some in
-        let e : getD (placesOf store (listAt ns i)) 0 0 ≡ listAt ns i .place =
-        starts-at store (listAt ns i .count) (listAt ns i .place) 0 k ∙ omega (arith, span-none store (listAt ns i .place)) in
-        subst (λ (y : Node). Lies b store i (y .list .place)) at (lies b store i _ (rw e at (fine-ok b store ns o i index-inside 0 k)))
-
-    -- its words are among its list's
-    pub oldest-counted : getD (m .store) (x .list .place) 0 ≤ x .list .words .0
-    unfolding added
-    oldest-counted =
-        let p = pending-some (m .store) (x .list) some in
-        omega (arith, words-are, ap added (p .1), first-word (m .store) (x .list .place))
+    oldest-first = (takes .others, ap (λ (y : M.Node). y .pending) node-is ∙ takes .pending)
 
     -- without it
-    pub taken-changed : Means b (machine (withNodes (m .state) (set (m .state .nodes) i (takenNode (m .store) x))) (m .store) (m .memory))
-        (setNode n (taken (meaning b m .nodes n)) (meaning b m))
-    unfolding nodeOk
-    taken-changed =
-        let p = parts b m fits in
-        let o : listsOk b (m .store) (set (m .state .nodes) i (takenNode (m .store) x)) ≡ true =
-        ap (λ (y : Node). listsOk b (m .store) (set (m .state .nodes) i (takenNode (m .store) y))) (sym at)
-        ∙ taken-lists (m .store) (m .state .nodes) i index-inside (subst (λ (y : Node). 0 < y .list .count) (sym at) some) b (p .lists) in
-        record {
-          fit = fit b _ (node-fit b m (set (m .state .nodes) i (takenNode (m .store) x)) p (length-set (m .state .nodes) i (takenNode (m .store) x)) o
-              (every-set nodeOk (m .state .nodes) i (takenNode (m .store) x) (p .nodes) (onward-ok (x .handover))));
-          means = ap (λ (j : ℕ). meaning b (machine (withNodes (m .state) (set (m .state .nodes) j (takenNode (m .store) x))) (m .store) (m .memory))) (sym slot)
-              ∙ node-means b m n (takenNode (m .store) x) is p
-              ∙ ap (λ (y : M.Node). setNode n y (meaning b m)) (taken-node (m .store) x some ∙ ap taken (sym node-is));
-        }
+    pub taken-changed : (store′ : List ℕ) (s′ : State) → Listed b (m .store) store′ (m .state) s′ (takenAt ms i)
+        → Means b (machine s′ store′ (m .memory)) (setNode n (taken (meaning b m .nodes n)) (meaning b m))
+    unfolding taken numbered
+    taken-changed store′ s′ a =
+        node-changed b m (parts b m fits) n is (taken (meaning b m .nodes n)) (onward-ok (meaning b m .nodes n .handover)) store′ s′
+        (subst (λ (j : ℕ). Listed b (m .store) store′ (m .state) s′ (set ms j (taken (meaning b m .nodes n)))) (sym slot)
+        (subst (λ (y : M.Node). Listed b (m .store) store′ (m .state) s′ (set ms i (taken y))) (sym node-is) a))
 
 -- ---- acknowledge
 module _ (b : Bench) (m : Machine) (fits : unfit b m ≡ 0) (n h : ℕ) where
@@ -115,25 +96,24 @@ module _ (b : Bench) (m : Machine) (fits : unfit b m ≡ 0) (n h : ℕ) where
   acked-7 r = turning b m (acknowledge n h) fits 7 (acknowledge-7 b (meaning b m) n h r)
 
   module _ (i : ℕ) (is : isNode b n ≡ true) (slot : nodeSlot b n ≡ i) (x : Node) (at : getD (m .state .nodes) i freshNode ≡ x) where
-    pub acked-14 : x .list .count ≡ 0 → Obeyed b (acknowledge n h) m (refused 14) m
-    acked-14 e =
-        turning b m (acknowledge n h) fits 14
-        (acknowledge-14 b (meaning b m) n h is (pending-is b m fits n i is slot x at ∙ pending-none (m .store) (x .list) e))
+    pub acked-14 : x .answers ≡ 0 → Obeyed b (acknowledge n h) m (refused 14) m
+    acked-14 e = turning b m (acknowledge n h) fits 14 (acknowledge-14 b (meaning b m) n h is (pending-none b m fits n i is slot x at e))
 
-    pub acked-15 : 0 < x .list .count → (h ≡ x .handover → ⊥) → Obeyed b (acknowledge n h) m (refused 15) m
+    pub acked-15 : 0 < x .answers → (h ≡ x .handover → ⊥) → Obeyed b (acknowledge n h) m (refused 15) m
     acked-15 some d =
         let w = oldest-first b m fits n i is slot x at some in
         turning b m (acknowledge n h) fits 15
         (acknowledge-15 b (meaning b m) n h is _ (w .0) (w .1) (ap (eqb h) (handover-is b m fits n i is slot x at) ∙ ne-eqb h (x .handover) d))
 
-    pub acked-0 : 0 < x .list .count → h ≡ x .handover
-        → Obeyed b (acknowledge n h) m (answered done) (machine (withNodes (m .state) (set (m .state .nodes) i (takenNode (m .store) x))) (m .store) (m .memory))
+    pub acked-0 : 0 < x .answers → h ≡ x .handover → (store′ : List ℕ) (s′ : State)
+        → Listed b (m .store) store′ (m .state) s′ (takenAt (nodesIn (m .store) (m .state .nodes)) i)
+        → Obeyed b (acknowledge n h) m (answered done) (machine s′ store′ (m .memory))
     unfolding turned
-    acked-0 some e =
+    acked-0 some e store′ s′ a =
         let w = oldest-first b m fits n i is slot x at some in
         obeying b m (acknowledge n h) fits (answered done) _ _ refl
         (acknowledge-0 b (meaning b m) n h is _ (w .0) (w .1) (ap (eqb h) (handover-is b m fits n i is slot x at) ∙ eq-eqb h (x .handover) e))
-        (taken-changed b m fits n i is slot x at some)
+        (taken-changed b m fits n i is slot x at some store′ s′ a)
 
 -- ---- collect: it is obeyed by a machine that stays as it is
 module _ (b : Bench) (m : Machine) (f : Form) (n room : ℕ) where
@@ -179,12 +159,11 @@ module _ (b : Bench) (m : Machine) (f : Form) (n room : ℕ) where
     collected-7 out r = refusing 7 out (collect-7 b (meaning b m) f n room r)
 
     module _ (i : ℕ) (is : isNode b n ≡ true) (slot : nodeSlot b n ≡ i) (x : Node) (at : getD (m .state .nodes) i freshNode ≡ x) where
-      pub collected-14 : (out : List ℕ) → x .list .count ≡ 0 → Collects b (collect f n room) m (Handout.Refused 14) out out
-      collected-14 out e =
-          refusing 14 out (collect-14 b (meaning b m) f n room is (pending-is b m fits n i is slot x at ∙ pending-none (m .store) (x .list) e))
+      pub collected-14 : (out : List ℕ) → x .answers ≡ 0 → Collects b (collect f n room) m (Handout.Refused 14) out out
+      collected-14 out e = refusing 14 out (collect-14 b (meaning b m) f n room is (pending-none b m fits n i is slot x at e))
 
       -- v is the oldest answer in the form asked for
-      module _ (some : 0 < x .list .count) (v : List ℕ) (e : shown f n (answerAt (m .store) (x .list .place)) ≡ v) where
+      module _ (some : 0 < x .answers) (v : List ℕ) (e : shown f n (oldest b m fits n i is slot x at some) ≡ v) where
         pub collected-16 : (out : List ℕ) → room < length v → Collects b (collect f n room) m (Handout.Refused 16) out out
         collected-16 out h =
             let w = oldest-first b m fits n i is slot x at some in

@@ -1,4 +1,4 @@
--- Any two outcomes that a promise permits are the same, but for an answer's place and the store's words in no pending answer.
+-- Any two outcomes that a promise permits are equal: state, store to the last word, plaque memory, reply and output.
 -- Assumes nothing.
 use Prim.Native.Nat.{ℕ, zero, suc, _+_, _-_, _*_, _≤_, _<_}
 use mathlib.Core.Path.{_≡_, refl, sym, ap, _∙_, subst}
@@ -8,36 +8,35 @@ use mathlib.Core.List.{List, [], _∷_, _++_, map}
 use native.Mathlib.Omega.{arith}
 use native.Mathlib.Nat.{zero-mul}
 use lib.Dec.{leb, eqb}
-use lib.ListN.{length, getD, take, drop, replicate, take-append-drop, length-drop, length-map, List·getD-map}
+use lib.ListN.{length, getD, take, drop, replicate, take-append-drop, length-drop}
 use lib.Seq.{slice, ext-getD, length-take-le, take-take, take-all}
 use borrow.Author.Tests.{eqb-true, leb-true, le-leb, not-true}
 use Rattle.units.specs.Count.{every, within}
+use Rattle.units.specs.declared.Words.{Words}
 use Rattle.units.proofs.Choice.{and-true}
 use Rattle.meaning.specs.Bench.{Bench, hub, isReader, isNode}
 use Rattle.meaning.specs.Gateway as M
 use Rattle.meaning.specs.Gateway.{Gateway, empty, plaque, Report, never, last, on}
 use Rattle.meaning.specs.Call.{Call, Said, refused, answered, queued, done, quiet, handed, Outcome}
-use Rattle.meaning.specs.Room.{added}
 use Rattle.demands.specs.Sound.{Sound}
-use Rattle.state.specs.State.{freshReader, freshNode}
-use Rattle.state.specs.Machine.{Machine, meaning, nodeSlot, readersOf, nodeOf, pendingOf, readerOf, fieldOf, modeOf, reportOf, regionOf}
-use Rattle.state.specs.Consistent.{zeros, counted, listClear, plaqueOk, readingOk, reportOk, nameOk}
+use Rattle.state.specs.State.{freshReader}
+use Rattle.state.specs.Machine.{Machine, machine, meaning, nodeSlot, nodesIn, readersOf, readerOf, fieldOf, modeOf, reportOf, regionOf, plain}
+use Rattle.state.specs.Consistent.{zeros, plaqueOk, readingOk, reportOk, nameOk}
 use Rattle.state.specs.declared.reader.Plaque as P
 use Rattle.state.specs.declared.reader.Reading as D
 use Rattle.state.specs.declared.reader.Report as T
 use Rattle.state.specs.declared.reader.Reader.{Reader}
 use Rattle.state.specs.declared.node.Node.{Node}
 use Rattle.state.specs.declared.Name.{Name}
-use Rattle.state.proofs.Lists.{getD-any, below-or, every-get}
-use Rattle.state.proofs.Starts.{pending-long}
-use Rattle.store.proofs.Every.{both}
-use Rattle.store.proofs.Order.{lists-parts}
+use Rattle.state.specs.declared.State.{State}
+use Rattle.state.proofs.Lists.{both, below-or}
+use Rattle.state.proofs.Read.{one-content}
 use Rattle.promise.specs.Obeyed as O
 use Rattle.promise.specs.Obeyed.{spoken, turned, Does, Obeyed}
-use Rattle.promise.specs.Same.{Known, known, Alike}
 use Rattle.promise.specs.declared.Reply.{Reply}
 use Rattle.promise.specs.declared.Handout.{Handout}
 use Rattle.promise.proofs.Parts.{Parts, parts}
+use Rattle.promise.proofs.Nodes.{many}
 use Rattle.promise.proofs.Tables.{reader-node, reader-slot, node-hub, reader-at, node-at}
 use Rattle.promise.proofs.Readers.{ReaderParts, reader-parts, reader-in-order}
 
@@ -72,10 +71,12 @@ reader-by : {p q : P.Plaque} {r s : D.Reading} {t u : T.Report} → p ≡ q → 
     → _≡_ {A = Reader} (record { plaque = p; reading = r; report = t }) (record { plaque = q; reading = s; report = u })
 reader-by p r t = cc
 
-known-by : {i j h k c d w v p q : ℕ} {a e : List (List ℕ)} → i ≡ j → h ≡ k → c ≡ d → w ≡ v → a ≡ e → p ≡ q
-    → _≡_ {A = Known} (record { instance = i; handover = h; count = c; words = w; answers = a; none = p })
-    (record { instance = j; handover = k; count = d; words = v; answers = e; none = q })
-known-by i h c w a p = cc
+state-by : {n k : Name} {r q : List Reader} {l j : List Node} {g h : List Words} → n ≡ k → r ≡ q → l ≡ j → g ≡ h
+    → _≡_ {A = State} (record { name = n; readers = r; nodes = l; held = g }) (record { name = k; readers = q; nodes = j; held = h })
+state-by n r l h = cc
+
+machine-by : {s t : State} {u v x y : List ℕ} → s ≡ t → u ≡ v → x ≡ y → machine s u x ≡ machine t v y
+machine-by s u x = cc
 
 -- ---- the name
 name-same : (s t : Name) → nameOk s ≡ true → nameOk t ≡ true → length (s .bytes) ≡ 64 → length (t .bytes) ≡ 64
@@ -221,33 +222,6 @@ index-node b ok i h = go (below-or i (b .readers))
         record { node = i + 1; is = reader-node b (i + 1) r; slot = reader-slot b ok (i + 1) r ∙ omega arith }
     go (inr l) = record { node = hub; is = node-hub b; slot = omega arith }
 
--- a list's count of its words is right, and its place is 0 where it has no answer
-pub record ListFit (store : List ℕ) (x : Node) : Type 0 where
-  pub words : x .list .words .0 ≡ added (pendingOf store (x .list))
-  pub none : cond (eqb (x .list .count) 0) (x .list .place) 0 ≡ 0
-
-pub none-by : (t : Bool) (p : ℕ) → cond t (eqb p 0) true ≡ true → cond t p 0 ≡ 0
-none-by true p e = eqb-true p 0 e
-none-by false p e = refl
-
-list-fit : (b : Bench) (m : Machine) → Parts b m → (i : ℕ) → i < b .readers + 1 → ListFit (m .store) (getD (m .state .nodes) i freshNode)
-unfolding counted listClear
-list-fit b m p i h =
-    let ns = m .state .nodes in
-    let l : i < length ns = omega (arith, p .eachNode) in
-    let o = lists-parts b (m .store) ns (p .lists) in
-    record {
-      words = eqb-true _ _ (every-get (counted (m .store)) ns i freshNode (o .1) l);
-      none = none-by (eqb (getD ns i freshNode .list .count) 0) _ (every-get listClear ns i freshNode (o .3) l);
-    }
-
-pub known-same : (s t : List ℕ) (x y : Node) → ListFit s x → ListFit t y → nodeOf s x ≡ nodeOf t y → known s x ≡ known t y
-unfolding known nodeOf
-known-same s t x y f g e =
-    let a : pendingOf s (x .list) ≡ pendingOf t (y .list) = ap (λ (n : M.Node). n .pending) e in
-    let c : x .list .count ≡ y .list .count = sym (pending-long s (x .list)) ∙ ap length a ∙ pending-long t (y .list) in
-    known-by (ap (λ (n : M.Node). n .count) e) (ap (λ (n : M.Node). n .handover) e) c (f .words ∙ ap added a ∙ sym (g .words)) a (f .none ∙ sym (g .none))
-
 module _ (b : Bench) (ok : Sound b) (m n : Machine) (p : Parts b m) (q : Parts b n) (e : meaning b m ≡ meaning b n) where
   region-each : (k : ℕ) → regionOf b (m .memory) k ≡ regionOf b (n .memory) k
   unfolding meaning readersOf readerOf
@@ -267,51 +241,40 @@ module _ (b : Bench) (ok : Sound b) (m n : Machine) (p : Parts b m) (q : Parts b
       (ap (λ (v : M.Reader). v .field) z) (ap (λ (v : M.Reader). v .mode) z) in
       subst (λ (k : ℕ). getD (m .state .readers) k freshReader ≡ getD (n .state .readers) k freshReader) s w
 
-  node-each : (i : ℕ) → i < b .readers + 1 → known (m .store) (getD (m .state .nodes) i freshNode) ≡ known (n .store) (getD (n .state .nodes) i freshNode)
+  node-each : (i : ℕ) → i < b .readers + 1
+      → getD (nodesIn (m .store) (m .state .nodes)) i plain ≡ getD (nodesIn (n .store) (n .state .nodes)) i plain
   node-each i h =
       let j = index-node b ok i h in
-      let z : nodeOf (m .store) (getD (m .state .nodes) (nodeSlot b (j .node)) freshNode) ≡ nodeOf (n .store) (getD (n .state .nodes) (nodeSlot b (j .node)) freshNode) =
-      sym (node-at b m (j .node) (j .is)) ∙ ap (λ (g : Gateway). g .nodes (j .node)) e ∙ node-at b n (j .node) (j .is) in
-      known-same (m .store) (n .store) _ _ (list-fit b m p i h) (list-fit b n q i h)
-      (subst (λ (k : ℕ). nodeOf (m .store) (getD (m .state .nodes) k freshNode) ≡ nodeOf (n .store) (getD (n .state .nodes) k freshNode)) (j .slot) z)
+      subst (λ (k : ℕ). getD (nodesIn (m .store) (m .state .nodes)) k plain ≡ getD (nodesIn (n .store) (n .state .nodes)) k plain) (j .slot)
+      (sym (node-at b m (j .node) (j .is)) ∙ ap (λ (g : Gateway). g .nodes (j .node)) e ∙ node-at b n (j .node) (j .is))
 
-  known-each : (i : ℕ) → i < b .readers + 1
-      → getD (map (known (m .store)) (m .state .nodes)) i (known [] freshNode) ≡ getD (map (known (n .store)) (n .state .nodes)) i (known [] freshNode)
-  known-each i h =
-      let a : i < length (map (known (m .store)) (m .state .nodes)) = rw length-map (omega (arith, p .eachNode)) in
-      let c : i < length (map (known (n .store)) (n .state .nodes)) = rw length-map (omega (arith, q .eachNode)) in
-      getD-any (map (known (m .store)) (m .state .nodes)) i (known [] freshNode) (known (m .store) freshNode) a
-      ∙ List·getD-map (known (m .store)) (m .state .nodes) i freshNode ∙ node-each i h ∙ sym (List·getD-map (known (n .store)) (n .state .nodes) i freshNode)
-      ∙ getD-any (map (known (n .store)) (n .state .nodes)) i (known (n .store) freshNode) (known [] freshNode) c
+  nodes-same : nodesIn (m .store) (m .state .nodes) ≡ nodesIn (n .store) (n .state .nodes)
+  nodes-same = ext-getD plain _ _ (many b m p ∙ sym (many b n q)) (λ i h. node-each i (omega (arith, many b m p)))
 
-  pub same-means : Alike m n
+  -- they are the same, to the last word
+  pub same-means : m ≡ n
   unfolding meaning
   same-means =
-      let l : length (map (known (m .store)) (m .state .nodes)) ≡ b .readers + 1 = rw length-map (p .eachNode) in
-      let k : length (map (known (n .store)) (n .state .nodes)) ≡ b .readers + 1 = rw length-map (q .eachNode) in
-      record {
-        name = name-same (m .state .name) (n .state .name) (p .name) (q .name) (p .wide) (q .wide) (ap (λ (g : Gateway). g .name) e);
-        readers = ext-getD freshReader (m .state .readers) (n .state .readers) (p .eachReader ∙ sym (q .eachReader))
-            (λ i h. reader-each i (omega (arith, p .eachReader)));
-        memory = memory-same b (m .memory) (n .memory) (p .memory) (q .memory) region-each;
-        nodes = ext-getD (known [] freshNode) _ _ (l ∙ sym k) (λ i h. known-each i (omega arith));
-        stored = p .store ∙ sym (q .store);
-      }
-
-alike-refl : (m n : Machine) → m ≡ n → Alike m n
-alike-refl m n e = subst (Alike m) e (record { name = refl; readers = refl; memory = refl; nodes = refl; stored = refl })
+      let o = one-content b (m .store) (n .store) (m .state .nodes) (n .state .nodes) (m .state .held) (n .state .held) (p .store) (q .store)
+      (p .lists) (q .lists) nodes-same in
+      machine-by
+      (state-by (name-same (m .state .name) (n .state .name) (p .name) (q .name) (p .wide) (q .wide) (ap (λ (g : Gateway). g .name) e))
+      (ext-getD freshReader (m .state .readers) (n .state .readers) (p .eachReader ∙ sym (q .eachReader))
+      (λ i h. reader-each i (omega (arith, p .eachReader))))
+      (o .nodes) (o .helds))
+      (o .stores) (memory-same b (m .memory) (n .memory) (p .memory) (q .memory) region-each)
 
 module _ (b : Bench) (ok : Sound b) where
-  pub only-does : (o : Outcome) (m : Machine) (s₁ s₂ : Said) (m₁ m₂ : Machine) → Does b o m s₁ m₁ → Does b o m s₂ m₂ → (s₁ ≡ s₂) × Alike m₁ m₂
+  pub only-does : (o : Outcome) (m : Machine) (s₁ s₂ : Said) (m₁ m₂ : Machine) → Does b o m s₁ m₁ → Does b o m s₂ m₂ → (s₁ ≡ s₂) × (m₁ ≡ m₂)
   only-does o m s₁ s₂ m₁ m₂ p q = let e : s₁ ≡ s₂ = p .says ∙ sym (q .says) in (e, go (turned s₁) refl e)
     where
-      go : (t : Bool) → turned s₁ ≡ t → s₁ ≡ s₂ → Alike m₁ m₂
-      go true f e = alike-refl m₁ m₂ (p .refusal f ∙ sym (q .refusal (ap turned (sym e) ∙ f)))
+      go : (t : Bool) → turned s₁ ≡ t → s₁ ≡ s₂ → m₁ ≡ m₂
+      go true f e = p .refusal f ∙ sym (q .refusal (ap turned (sym e) ∙ f))
       go false f e =
           let h : turned s₂ ≡ false = ap turned (sym e) ∙ f in
           same-means b ok m₁ m₂ (parts b m₁ (p .sound f)) (parts b m₂ (q .sound h)) (p .means f ∙ sym (q .means h))
 
-  pub only : (c : Call) (m : Machine) (s₁ s₂ : Said) (m₁ m₂ : Machine) → Obeyed b c m s₁ m₁ → Obeyed b c m s₂ m₂ → (s₁ ≡ s₂) × Alike m₁ m₂
+  pub only : (c : Call) (m : Machine) (s₁ s₂ : Said) (m₁ m₂ : Machine) → Obeyed b c m s₁ m₁ → Obeyed b c m s₂ m₂ → (s₁ ≡ s₂) × (m₁ ≡ m₂)
   only c m s₁ s₂ m₁ m₂ p q = only-does _ m s₁ s₂ m₁ m₂ p q
 
   -- the code's reply is fixed by what is said
@@ -330,7 +293,7 @@ module _ (b : Bench) (ok : Sound b) where
   back Reply.Queued = refl
 
   pub only-reply : (c : Call) (m : Machine) (r₁ r₂ : Reply) (m₁ m₂ : Machine) → Obeyed b c m (spoken r₁) m₁ → Obeyed b c m (spoken r₂) m₂
-      → (r₁ ≡ r₂) × Alike m₁ m₂
+      → (r₁ ≡ r₂) × (m₁ ≡ m₂)
   only-reply c m r₁ r₂ m₁ m₂ p q =
       let o = only c m (spoken r₁) (spoken r₂) m₁ m₂ p q in (sym (back r₁) ∙ ap unspoken (o .0) ∙ back r₂, o .1)
 

@@ -14,18 +14,19 @@ use Rattle.meaning.specs.Gateway.{Gateway}
 use Rattle.meaning.proofs.Chain.{accepts, fine, none, this, pass-if, stop-if}
 use Rattle.state.specs.Machine.{Machine, meaning}
 use Rattle.state.specs.Consistent.{listsOk, nodeOk, readerOk, nameOk, arrays, consistent, lengths, lent, unfit}
-use Rattle.store.proofs.Every.{both}
+use Rattle.state.proofs.Lists.{both}
 
 pub record Parts (b : Bench) (m : Machine) : Type 0 where
   pub store : length (m .store) ≡ b .store
   pub memory : length (m .memory) ≡ b .readers * b .region
-  pub lists : listsOk b (m .store) (m .state .nodes) ≡ true
+  pub lists : listsOk b (m .store) (m .state .nodes) (m .state .held) ≡ true
   pub nodes : every nodeOk (m .state .nodes) ≡ true
   pub readers : every (readerOk b) (m .state .readers) ≡ true
   pub name : nameOk (m .state .name) ≡ true
   pub wide : length (m .state .name .bytes) ≡ 64
   pub eachReader : length (m .state .readers) ≡ b .readers
   pub eachNode : length (m .state .nodes) ≡ b .readers + 1
+  pub eachHeld : length (m .state .held) ≡ b .readers + 1
 
 module _ (b : Bench) (m : Machine) where
   pub parts : unfit b m ≡ 0 → Parts b m
@@ -33,12 +34,13 @@ module _ (b : Bench) (m : Machine) where
   parts e =
       let p = accepts _ _ e in
       let l = and-true (eqb (length (m .store)) (b .store)) _ (not-false _ (fine 1 _ refl (p .0))) in
-      let c = and-true (listsOk b (m .store) (m .state .nodes)) _ (not-false _ (fine 2 _ refl (p .1))) in
+      let c = and-true (listsOk b (m .store) (m .state .nodes) (m .state .held)) _ (not-false _ (fine 2 _ refl (p .1))) in
       let n = and-true (every nodeOk (m .state .nodes)) _ (c .1) in
       let r = and-true (every (readerOk b) (m .state .readers)) _ (n .1) in
       let t = and-true (nameOk (m .state .name)) _ (r .1) in
       let a = and-true (eqb (length (m .state .name .bytes)) 64) _ (t .1) in
       let s = and-true (eqb (length (m .state .readers)) (b .readers)) _ (a .1) in
+      let k = and-true (eqb (length (m .state .nodes)) (b .readers + 1)) _ (s .1) in
       record {
         store = eqb-true _ _ (l .0);
         memory = eqb-true _ _ (l .1);
@@ -48,7 +50,8 @@ module _ (b : Bench) (m : Machine) where
         name = t .0;
         wide = eqb-true _ _ (a .0);
         eachReader = eqb-true _ _ (s .0);
-        eachNode = eqb-true _ _ (s .1);
+        eachNode = eqb-true _ _ (k .0);
+        eachHeld = eqb-true _ _ (k .1);
       }
 
   -- refusal 1
@@ -78,7 +81,7 @@ module _ (b : Bench) (m : Machine) where
   fit p = unfit-0
       (both (eq-eqb _ _ (p .store)) (eq-eqb _ _ (p .memory)))
       (both (p .lists) (both (p .nodes) (both (p .readers) (both (p .name)
-      (both (eq-eqb _ _ (p .wide)) (both (eq-eqb _ _ (p .eachReader)) (eq-eqb _ _ (p .eachNode))))))))
+      (both (eq-eqb _ _ (p .wide)) (both (eq-eqb _ _ (p .eachReader)) (both (eq-eqb _ _ (p .eachNode)) (eq-eqb _ _ (p .eachHeld)))))))))
 
 -- a machine that has neither refusal, and what it means: what a change of the machine has to show
 pub record Means (b : Bench) (m : Machine) (g : Gateway) : Type 0 where

@@ -39,16 +39,15 @@ use Rattle.meaning.proofs.CommandLaws.{read-is, data-length}
 use Rattle.demands.specs.Sound.{full-sound}
 use Rattle.state.specs.State.{freshReader, freshNode, off, noReport}
 use Rattle.state.specs.Machine.{Machine, machine, meaning, nodeSlot, readerOf, fieldOf, modeOf, reportOf, regionOf}
-use Rattle.state.specs.Consistent.{nodeAt, heldsOf, readerOk, nameOk, unfit}
+use Rattle.state.specs.Consistent.{nodeAt, counts, readerOk, nameOk, unfit}
 use Rattle.state.specs.declared.reader.Reading.{Reading}
 use Rattle.state.specs.declared.reader.Reader.{Reader}
 use Rattle.state.specs.declared.node.Node.{Node}
 use Rattle.state.specs.declared.Name.{Name}
 use Rattle.lists.specs.Room.{roomFor}
-use Rattle.store.specs.Layout.{withNodes, runsOf, packedFrom}
-use Rattle.store.specs.Joined.{Joinable}
-use Rattle.store.proofs.Every.{both}
-use Rattle.store.proofs.Joins.{joinedIn, runs-fit, packed-added}
+use Rattle.state.proofs.Lists.{both}
+use Rattle.store.specs.Changes.{Sound}
+use Rattle.store.proofs.Promised as Lists
 use Rattle.promise.specs.Obeyed.{Does, expected, Obeyed}
 use Rattle.promise.specs.Runs.{Heard, Chain, calls}
 use Rattle.promise.proofs.Parts.{parts, Means}
@@ -63,7 +62,7 @@ use Rattle.promise.proofs.Steps.{same-reader, same-desk}
 use Rattle.promise.proofs.Answers.{reader-index, hub-index, answer-formed, not-found-formed}
 use Rattle.promise.proofs.Dues.{due-13, due-queued, room-due, joins}
 use Rattle.promise.proofs.Plaques.{left-7, left-14, left-0, arrived-7, arrived-9, arrived-10, arrived-0}
-use Rattle.promise.proofs.Oldest.{acked-7, acked-14, acked-15, acked-0, collect-obeyed}
+use Rattle.promise.proofs.Oldest.{takes, acked-7, acked-14, acked-15, acked-0, collect-obeyed}
 use Rattle.promise.proofs.Sweeps.{cleared, restarted}
 use Rattle.promise.proofs.Locals.{tag-none, fill-12, read-12, write-12, fill-due, read-due, write-due, id-due, search-due}
 use Rattle.promise.proofs.Locals.{stop-due, start-due, reset-due, quiet-none, quiet-off, quiet-repeat, check-12, check-due}
@@ -83,26 +82,12 @@ joined-some m h e n is w formed f =
     let p = parts full m (e .fit) in
     let ns : List Node = m .state .nodes in
     let i : ℕ = nodeSlot full n in
-    let r : roomFor full (heldsOf (m .store) ns) i (length w) ≡ true =
+    let r : roomFor full (counts (m .state .held)) i (length w) ≡ true =
     sym (room-due full full-sound n i is refl w formed m h (e .fit) (ap (λ (g : Gateway). g .nodes) (e .means))) ∙ f in
-    let j : Joinable full (m .store) ns i w = record {
-      size = p .store;
-      lists = p .lists;
-      index = node-inside full n (length ns) is (p .eachNode);
-      answer = formed;
-      room = r;
-    } in
-    let runs : List ℕ = runsOf (m .store) i w 0 ns in
-    let rest : List ℕ = drop (length runs) (m .store) in
-    let long : length (runs ++ rest) ≡ length (m .store) =
-    omega (arith, length-append runs rest, length-drop (length runs) (m .store), runs-fit full (m .store) ns i w j, p .store) in
-    let a = packed-added full (m .store) ns i w j (runs ++ rest) rest refl long in
-    let s = withNodes (m .state) (packedFrom 0 (joinedIn ns i 0 (length w))) in
-    record {
-      there = machine s (runs ++ rest) (m .memory);
-      is = joins full full-sound n i is refl w formed m h e (runs ++ rest) s
-          (record { lists = a .lists; nodes = a .nodes; rest = refl; long = a .long });
-    }
+    let at : i < length ns = node-inside full n (length ns) is (p .eachNode) in
+    let ok : Sound full (m .store) (m .state) = record { size = p .store; lists = p .lists } in
+    let a = Lists.join full (m .store) (m .state) ok i at w (record { sound = ok; index = at; answer = formed; room = r }) _ (sym (p .eachNode)) in
+    record { there = _; is = joins full full-sound n i is refl w formed m h e _ _ (a .after) }
 
 -- bytes of a part of a list
 part-short : (f t : ℕ) (l : List ℕ) → length (slice f t l) ≤ t - f
@@ -117,6 +102,9 @@ zeros-row (suc k) = zeros-row k
 module _ (m : Machine) (ok : unfit full m ≡ 0) where
   abbrev g : Gateway
   g = meaning full m
+
+  lists-ok : Sound full (m .store) (m .state)
+  lists-ok = let p = parts full m ok in record { size = p .store; lists = p .lists }
 
   -- what can be said and left for an outcome
   record Can (o : Outcome) : Type 0 where
@@ -336,9 +324,9 @@ module _ (m : Machine) (ok : unfit full m ≡ 0) where
     can-rule SetName bs h = can-desk (g .nodes hub) 0x21 [] (idle bs) (lit< tt) (lit≤ tt) (named bs h)
     can-rule Initialise bs h = can-desk (g .nodes hub) 0x60 [] (idle []) (lit< tt) (lit≤ tt) (named [] (lit≤ tt))
     can-rule ResetGateway bs h =
-        can-desk (swept resetting (g .nodes hub)) 0x61 [] _ (lit< tt) (lit≤ tt) (record { there = _; is = restarted full m ok })
+        can-desk (swept resetting (g .nodes hub)) 0x61 [] _ (lit< tt) (lit≤ tt) (record { there = _; is = restarted full m ok _ _ (Lists.resets full (m .store) (m .state) lists-ok _ (sym (parts full m ok .eachNode))) })
     can-rule Clear bs h =
-        can-desk (swept clearing (g .nodes hub)) 0x79 [] _ (lit< tt) (lit≤ tt) (record { there = _; is = cleared full m ok })
+        can-desk (swept clearing (g .nodes hub)) 0x79 [] _ (lit< tt) (lit≤ tt) (record { there = _; is = cleared full m ok _ _ (Lists.clears full (m .store) (m .state) lists-ok _ (sym (parts full m ok .eachNode))) })
 
   -- ---- the calls
   abbrev Ends : Call → Type 0
@@ -428,10 +416,14 @@ module _ (m : Machine) (ok : unfit full m ≡ 0) where
   can-acknowledge n h false is = (refused 7, m, acked-7 full m ok n h is)
   can-acknowledge n h true is =
       let y : Node = getD (m .state .nodes) (nodeSlot full n) freshNode in
-      elim (ℕ-discrete (y .list .count) 0) [
+      elim (ℕ-discrete (y .answers) 0) [
         | yes z ↦ (refused 14, m, acked-14 full m ok n h (nodeSlot full n) is refl y refl z)
         | no d ↦ elim (ℕ-discrete h (y .handover)) [
-          | yes e ↦ (answered done, _, acked-0 full m ok n h (nodeSlot full n) is refl y refl (omega arith) e)
+          | yes e ↦ (
+            answered done,
+            _,
+            acked-0 full m ok n h (nodeSlot full n) is refl y refl (omega arith) e _ _ (takes full m ok n (nodeSlot full n) is refl y refl (omega arith) .after),
+          )
           | no f ↦ (refused 15, m, acked-15 full m ok n h (nodeSlot full n) is refl y refl (omega arith) f)
         ]
       ]

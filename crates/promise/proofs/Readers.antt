@@ -22,15 +22,14 @@ use Rattle.state.specs.declared.reader.Reading.{Reading}
 use Rattle.state.specs.declared.reader.Report.{Report}
 use Rattle.state.specs.declared.reader.Reader.{Reader}
 use Rattle.state.specs.declared.State.{State}
-use Rattle.state.proofs.Lists.{every-get}
-use Rattle.store.proofs.Every.{both, every-set}
+use Rattle.state.proofs.Lists.{both, every-get, every-set}
 use Rattle.promise.proofs.Parts.{Parts, parts, fit, Means}
 use Rattle.promise.proofs.Tables.{seen-set, reader-range, reader-inj, reader-at}
 use Rattle.promise.proofs.Regions.{Within}
 
 -- a state with another reader at an index
 abbrev pub withReader : State → ℕ → Reader → State
-withReader s i x = record { name = s .name; readers = set (s .readers) i x; nodes = s .nodes }
+withReader s i x = record { name = s .name; readers = set (s .readers) i x; nodes = s .nodes; held = s .held }
 
 -- ---- what the machine means at reader n
 module _ (b : Bench) (m : Machine) (n : ℕ) (is : isReader b n ≡ true) (x : Reader) (at : getD (m .state .readers) (n - 1) freshReader ≡ x) where
@@ -98,6 +97,7 @@ module _ (b : Bench) (m : Machine) (n : ℕ) (is : isReader b n ≡ true) (x : R
     wide = p .wide;
     eachReader = length-set (m .state .readers) (n - 1) x ∙ p .eachReader;
     eachNode = p .eachNode;
+    eachHeld = p .eachHeld;
   }
 
   pub reader-changed : unfit b m ≡ 0 → readerOk b x ≡ true → (r : M.Reader) → readerOf x (regionOf b memory′ n) ≡ r

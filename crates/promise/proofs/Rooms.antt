@@ -19,19 +19,17 @@ use Rattle.meaning.specs.Room.{added, held, shareOf, charge, total, charges, fi
 use Rattle.demands.specs.Sound.{Sound}
 use Rattle.demands.specs.Demand.{Bounds}
 use Rattle.demands.proofs.Room.{put-same, held-joined}
-use Rattle.state.specs.Machine.{Machine, machine, meaning, seen, nodeSlot, nodesOf, readersOf, nodeOf, plain}
-use Rattle.state.specs.Consistent.{heldsOf, chargesOf, bounded, nodeOk, unfit}
-use Rattle.state.specs.declared.node.Node.{Node}
+use Rattle.state.specs.Machine.{Machine, machine, meaning, seen, nodeSlot, nodesIn, nodesOf, plain}
+use Rattle.state.specs.Consistent.{counts, chargesOf, bounded, unfit}
 use Rattle.state.specs.declared.State.{State}
-use Rattle.state.proofs.Lists.{map-set, every-get}
+use Rattle.state.proofs.Lists.{both, map-set, every-get}
+use Rattle.state.proofs.Read.{packed-of}
 use Rattle.lists.specs.Room.{roomFor}
 use Rattle.lists.proofs.Charges.{charges-more}
-use Rattle.store.specs.Joined.{Added}
-use Rattle.store.proofs.Every.{both, every-set}
-use Rattle.store.proofs.Order.{lists-parts}
-use Rattle.store.proofs.Rooms.{helds-mean}
-use Rattle.promise.proofs.Parts.{Parts, parts, fit, Means}
-use Rattle.promise.proofs.Tables.{seen-set, node-inj, node-inside, reader-node, reader-slot, node-hub}
+use Rattle.store.specs.Changes.{Listed, joinedAt}
+use Rattle.promise.proofs.Parts.{Parts, parts, Means}
+use Rattle.promise.proofs.Nodes.{numbered, many, all-numbered, node-changed}
+use Rattle.promise.proofs.Tables.{seen-set, node-inj, node-inside, node-at, reader-node, reader-slot, node-hub}
 
 -- ---- charges, node by node and as a list
 total-same : (n : ℕ) (f g : ℕ → ℕ) → ((k : ℕ) → 1 ≤ k → k ≤ n → f k ≡ g k) → total n f ≡ total n g
@@ -81,110 +79,58 @@ module _ (b : Bench) (ok : Sound b) (g : Gateway) (ns : List M.Node) (long : len
 -- ---- the table of nodes with an answer joined at node n
 module _ (b : Bench) (m : Machine) (n : ℕ) (w : List ℕ) (is : isNode b n ≡ true) (p : Parts b m) where
   abbrev ns : List M.Node
-  ns = map (nodeOf (m .store)) (m .state .nodes)
+  ns = nodesIn (m .store) (m .state .nodes)
+
+  abbrev hs : List ℕ
+  hs = counts (m .state .held)
 
   abbrev i : ℕ
   i = nodeSlot b n
 
-  many : length ns ≡ b .readers + 1
-  many = rw length-map (p .eachNode)
+  pub helds-are : hs ≡ map held ns
+  helds-are = packed-of b (m .store) (m .state .nodes) (m .state .held) (p .store) (p .lists) .helds
 
-  node-in : meaning b m .nodes n ≡ getD ns i plain
-  unfolding meaning nodesOf seen
-  node-in = yes-cond plain is
-
-  held-in : held (meaning b m .nodes n) ≡ getD (heldsOf (m .store) (m .state .nodes)) i 0
+  held-in : held (meaning b m .nodes n) ≡ getD hs i 0
   unfolding added
-  held-in =
-      ap held node-in ∙ sym (List·getD-map held ns i plain)
-      ∙ ap (λ (hs : List ℕ). getD hs i 0) (sym (helds-mean (m .store) (m .state .nodes)))
+  held-in = ap held (node-at b m n is) ∙ sym (List·getD-map held ns i plain) ∙ ap (λ (l : List ℕ). getD l i 0) (sym helds-are)
 
   join-table : (join n w (meaning b m)) .nodes ≡ seen (isNode b) (nodeSlot b) plain (set ns i (joined w (meaning b m .nodes n)))
   unfolding meaning nodesOf
   join-table =
       sym (seen-set (isNode b) (nodeSlot b) plain ns n (joined w (seen (isNode b) (nodeSlot b) plain ns n)) is
-      (node-inside b n (length ns) is many) (λ k q r. node-inj b k n is q r))
+      (node-inside b n (length ns) is (many b m p)) (λ k q r. node-inj b k n is q r))
 
   -- "An answer has room exactly when": the meaning's test is the code's
-  pub room-same : Sound b → wordNo 1 w ≡ length w
-      → fits b n (join n w (meaning b m)) ≡ roomFor b (heldsOf (m .store) (m .state .nodes)) (nodeSlot b n) (length w)
+  pub room-same : Sound b → wordNo 1 w ≡ length w → fits b n (join n w (meaning b m)) ≡ roomFor b hs (nodeSlot b n) (length w)
   unfolding fits roomFor
   room-same ok e =
-      let hs : List ℕ = heldsOf (m .store) (m .state .nodes) in
       let y : M.Node = joined w (meaning b m .nodes n) in
-      let z : map held ns ≡ hs = sym (helds-mean (m .store) (m .state .nodes)) in
       let a : held y ≡ getD hs i 0 + length w =
       held-joined w (meaning b m .nodes n) ∙ ap (λ (k : ℕ). held (meaning b m .nodes n) + k) e ∙ ap (λ (k : ℕ). k + length w) held-in in
       let c : charges b (join n w (meaning b m)) ≡ chargesOf (b .share) (set hs i (getD hs i 0 + length w)) =
-      charges-table b ok (join n w (meaning b m)) (set ns i y) (length-set ns i y ∙ many) join-table
-      ∙ ap (chargesOf (b .share)) (map-set held ns i y ∙ ap (λ (l : List ℕ). set l i (held y)) z ∙ ap (set hs i) a) in
+      charges-table b ok (join n w (meaning b m)) (set ns i y) (length-set ns i y ∙ many b m p) join-table
+      ∙ ap (chargesOf (b .share)) (map-set held ns i y ∙ ap (λ (l : List ℕ). set l i (held y)) (sym helds-are) ∙ ap (set hs i) a) in
       let d : held ((join n w (meaning b m)) .nodes n) ≡ getD hs i 0 + length w = ap held (put-same n y (meaning b m .nodes)) ∙ a in
       ap (λ (k : ℕ). leb k (b .limit) && leb (charges b (join n w (meaning b m))) (b .store)) d
       ∙ ap (λ (k : ℕ). leb (getD hs i 0 + length w) (b .limit) && leb k (b .store)) c
 
-  -- ---- an answer that the code added is an answer joined
-  module _ (store′ : List ℕ) (s′ : State) (a : Added b (m .store) store′ (m .state) s′ (nodeSlot b n) w) where
-    pub added-means : meaning b (machine s′ store′ (m .memory)) ≡ join n w (meaning b m)
-    unfolding meaning nodesOf
-    added-means =
-        let e : seen (isNode b) (nodeSlot b) plain (map (nodeOf store′) (s′ .nodes)) ≡ (join n w (meaning b m)) .nodes =
-        ap (seen (isNode b) (nodeSlot b) plain) (a .nodes ∙ ap (λ (x : M.Node). set ns i (joined w x)) (sym node-in)) ∙ sym join-table in
-        ap (λ (t : State). record {
-          name = take (t .name .length .0) (t .name .bytes);
-          nodes = nodesOf b store′ (s′ .nodes);
-          reader = readersOf b (m .memory) (t .readers);
-        })
-        (a .rest)
-        ∙ ap (λ (f : ℕ → M.Node). record {
-          name = take (m .state .name .length .0) (m .state .name .bytes);
-          nodes = f;
-          reader = readersOf b (m .memory) (m .state .readers);
-        })
-        e
-
-    pub added-fit : Parts b (machine s′ store′ (m .memory))
-    unfolding every nodeOk nodeOf joined
-    added-fit =
-        subst (λ (t : State). Parts b (machine t store′ (m .memory))) (sym (a .rest)) (record {
-          store = a .long ∙ p .store;
-          memory = p .memory;
-          lists = a .lists;
-          nodes = after;
-          readers = p .readers;
-          name = p .name;
-          wide = p .wide;
-          eachReader = p .eachReader;
-          eachNode = count;
-        })
-      where
-        handed : M.Node → Bool
-        handed x = leb 1 (x .handover)
-
-        handovers : (store : List ℕ) (l : List Node) → every nodeOk l ≡ every handed (map (nodeOf store) l)
-        handovers store [] = refl
-        handovers store (x ∷ l) = ap (λ t. handed (nodeOf store x) && t) (handovers store l)
-
-        after : every nodeOk (s′ .nodes) ≡ true
-        after =
-            let o : every handed ns ≡ true = sym (handovers (m .store) (m .state .nodes)) ∙ p .nodes in
-            handovers store′ (s′ .nodes) ∙ ap (every handed) (a .nodes)
-            ∙ every-set handed ns i (joined w (getD ns i plain)) o (every-get handed ns i plain o (node-inside b n (length ns) is many))
-
-        count : length (s′ .nodes) ≡ b .readers + 1
-        count =
-            let e : length (map (nodeOf store′) (s′ .nodes)) ≡ b .readers + 1 = ap length (a .nodes) ∙ length-set ns i (joined w (getD ns i plain)) ∙ many in
-            rw length-map at e
-
-    pub added-changed : Means b (machine s′ store′ (m .memory)) (join n w (meaning b m))
-    added-changed = record { fit = fit b _ added-fit; means = added-means }
+  -- an answer that the code added is an answer joined
+  pub added-changed : (store′ : List ℕ) (s′ : State) → Listed b (m .store) store′ (m .state) s′ (joinedAt ns (nodeSlot b n) w)
+      → Means b (machine s′ store′ (m .memory)) (join n w (meaning b m))
+  unfolding joined numbered
+  added-changed store′ s′ a =
+      let h : numbered (meaning b m .nodes n) ≡ true =
+      ap numbered (node-at b m n is) ∙ every-get numbered ns i plain (all-numbered b m p) (node-inside b n (length ns) is (many b m p)) in
+      node-changed b m p n is (joined w (meaning b m .nodes n)) h store′ s′
+      (subst (λ (x : M.Node). Listed b (m .store) store′ (m .state) s′ (set ns i (joined w x))) (sym (node-at b m n is)) a)
 
 -- ---- a consistent machine means a gateway that keeps both bounds
 module _ (b : Bench) (ok : Sound b) (m : Machine) (fits : unfit b m ≡ 0) where
-  limits : bounded b (heldsOf (m .store) (m .state .nodes)) ≡ true
-  limits = lists-parts b (m .store) (m .state .nodes) (parts b m fits .lists) .2
+  limits : bounded b (map held (nodesIn (m .store) (m .state .nodes))) ≡ true
+  limits = let p = parts b m fits in packed-of b (m .store) (m .state .nodes) (m .state .held) (p .store) (p .lists) .bounds
 
   fit-bounded : (n : ℕ) → held (meaning b m .nodes n) ≤ b .limit
-  unfolding bounded meaning nodesOf seen added heldsOf
+  unfolding bounded meaning nodesOf seen added
   fit-bounded n = go (isNode b n) refl
     where
       p : Parts b m
@@ -192,13 +138,14 @@ module _ (b : Bench) (ok : Sound b) (m : Machine) (fits : unfit b m ≡ 0) where
 
       go : (t : Bool) → isNode b n ≡ t → held (meaning b m .nodes n) ≤ b .limit
       go true is =
-          let hs : List ℕ = heldsOf (m .store) (m .state .nodes) in
-          let l : length hs ≡ b .readers + 1 = rw length-map (p .eachNode) in
+          let hs : List ℕ = map held (nodesIn (m .store) (m .state .nodes)) in
+          let l : length hs ≡ b .readers + 1 = length-map (nodesIn (m .store) (m .state .nodes)) held ∙ many b m p in
           let o = and-true (every (λ h. leb h (b .limit)) hs) _ limits in
           let i : ℕ = nodeSlot b n in
           let k = every-get (λ h. leb h (b .limit)) hs i 0 (o .0) (node-inside b n (length hs) is l) in
-          omega (arith, held-in b m n [] is p, leb-true (getD hs i 0) (b .limit) k)
-      go false is = omega (arith, ap held (no-cond {b = plain} (getD (map (nodeOf (m .store)) (m .state .nodes)) (nodeSlot b n) plain) is))
+          let e : held (meaning b m .nodes n) ≡ getD hs i 0 = held-in b m n [] is p ∙ ap (λ (l : List ℕ). getD l i 0) (helds-are b m n [] is p) in
+          omega (arith, e, leb-true (getD hs i 0) (b .limit) k)
+      go false is = omega (arith, ap held (no-cond {b = plain} (getD (nodesIn (m .store) (m .state .nodes)) (nodeSlot b n) plain) is))
 
   pub fit-bounds : Bounds b (meaning b m)
   unfolding bounded meaning nodesOf
@@ -206,10 +153,8 @@ module _ (b : Bench) (ok : Sound b) (m : Machine) (fits : unfit b m ≡ 0) where
     bounded = fit-bounded;
     stored =
         let p = parts b m fits in
-        let hs : List ℕ = heldsOf (m .store) (m .state .nodes) in
+        let hs : List ℕ = map held (nodesIn (m .store) (m .state .nodes)) in
         let o = and-true (every (λ h. leb h (b .limit)) hs) _ limits in
-        let c : charges b (meaning b m) ≡ chargesOf (b .share) hs =
-        charges-table b ok (meaning b m) (map (nodeOf (m .store)) (m .state .nodes)) (many b m hub [] (node-hub b) p) refl
-        ∙ ap (chargesOf (b .share)) (sym (helds-mean (m .store) (m .state .nodes))) in
+        let c : charges b (meaning b m) ≡ chargesOf (b .share) hs = charges-table b ok (meaning b m) _ (many b m p) refl in
         omega (arith, leb-true (chargesOf (b .share) hs) (b .store) (o .1));
   }

@@ -7,26 +7,25 @@ use lib.ListN.{replicate}
 use Rattle.meaning.specs.Call.{refused}
 use Rattle.meaning.specs.CasesOfCalls.{idA}
 use Rattle.meaning.proofs.Opened.{calls, responseRead}
-use Rattle.state.specs.Machine.{answerAt, startsOf, pendingOf, nodeOf, fieldOf, reportOf, modeOf, regionOf, readerOf, seen, nodesOf}
-use Rattle.state.specs.Machine.{readersOf, meaning}
-use Rattle.state.specs.Consistent.{okAnswer, overlap, clearOf, spots, inOrder, fineLists, heldsOf, counted, chargesOf, bounded}
-use Rattle.state.specs.Consistent.{listClear, listsOk, nodeOk, plaqueOk, readingOk, reportOk, readerOk, nameOk, arrays, consistent}
-use Rattle.state.specs.Consistent.{lengths, lent, unfit}
+use Rattle.state.specs.Layout.{laid, allLaid, storeOf, cuts, past}
+use Rattle.state.specs.Machine.{nodesIn, fieldOf, reportOf, modeOf, regionOf, readerOf, seen, nodesOf, readersOf, meaning}
+use Rattle.state.specs.Consistent.{inLayout, formed, chargesOf, bounded, listed, listsOk, nodeOk, plaqueOk, readingOk, reportOk, readerOk}
+use Rattle.state.specs.Consistent.{nameOk, arrays, consistent, lengths, lent, unfit}
 use Rattle.promise.specs.Obeyed.{expected}
 use Rattle.promise.specs.Sixteen.{answer, short, unnumbered, idle, sixteen, hasty, saidOn}
 
 -- what a machine means
 unfoldable meant : ℕ
-unfolding answerAt startsOf pendingOf nodeOf fieldOf reportOf modeOf regionOf readerOf seen nodesOf readersOf meaning
+unfolding cuts past nodesIn fieldOf reportOf modeOf regionOf readerOf seen nodesOf readersOf meaning
 meant = 0
 
 -- when it is consistent: its lists, then the rest
-unfoldable listed : ℕ
-unfolding okAnswer overlap clearOf spots inOrder fineLists heldsOf counted chargesOf bounded listClear listsOk
-listed = 0
+unfoldable ordered : ℕ
+unfolding laid allLaid storeOf inLayout formed chargesOf bounded listed listsOk
+ordered = 0
 
 unfoldable judged : ℕ
-unfolding listed nodeOk plaqueOk readingOk reportOk readerOk nameOk arrays consistent lengths lent unfit
+unfolding ordered nodeOk plaqueOk readingOk reportOk readerOk nameOk arrays consistent lengths lent unfit
 judged = 0
 
 pub sixteen-reached : map answer sixteen ≡ map refused (1 ∷ 2 ∷ 3 ∷ 4 ∷ 5 ∷ 6 ∷ 7 ∷ 8 ∷ 9 ∷ 10 ∷ 11 ∷ 12 ∷ 13 ∷ 14 ∷ 15 ∷ 16 ∷ [])

@@ -14,8 +14,8 @@ use Rattle.units.proofs.Choice.{and-true, yes-cond, no-cond, yes-or, no-or}
 use Rattle.meaning.specs.Bench.{Bench, hub, isReader, isNode}
 use Rattle.meaning.specs.Gateway.{put}
 use Rattle.demands.specs.Sound.{Sound}
-use Rattle.state.specs.State.{freshReader, freshNode}
-use Rattle.state.specs.Machine.{Machine, meaning, seen, nodeSlot, nodesOf, readersOf, nodeOf, startsOf, pendingOf, readerOf, regionOf, plain}
+use Rattle.state.specs.State.{freshReader}
+use Rattle.state.specs.Machine.{Machine, meaning, seen, nodeSlot, nodesIn, nodesOf, readersOf, readerOf, regionOf, plain}
 
 module _ {A : Type 0} (ok : ℕ → Bool) (slot : ℕ → ℕ) (d : A) (l : List A) where
   module _ (n : ℕ) (x : A) (is : ok n ≡ true) (inside : slot n < length l) (inj : (m : ℕ) → ok m ≡ true → slot m ≡ slot n → m ≡ n) where
@@ -102,6 +102,6 @@ module _ (b : Bench) (m : Machine) (n : ℕ) where
   unfolding meaning readersOf seen
   reader-at r = ap (λ x. readerOf x (regionOf b (m .memory) n)) (yes-cond freshReader r)
 
-  pub node-at : isNode b n ≡ true → meaning b m .nodes n ≡ nodeOf (m .store) (getD (m .state .nodes) (nodeSlot b n) freshNode)
-  unfolding meaning nodesOf seen nodeOf startsOf pendingOf
-  node-at p = yes-cond plain p ∙ List·getD-map (nodeOf (m .store)) (m .state .nodes) (nodeSlot b n) freshNode
+  pub node-at : isNode b n ≡ true → meaning b m .nodes n ≡ getD (nodesIn (m .store) (m .state .nodes)) (nodeSlot b n) plain
+  unfolding meaning nodesOf seen
+  node-at p = yes-cond plain p

@@ -13,32 +13,30 @@ use Rattle.meaning.specs.CasesOfCalls.{cmd, idA, clears, getsName}
 use Rattle.meaning.specs.Gateway.{Gateway, fresh}
 use Rattle.meaning.specs.Call.{Call, arrive, leave, collect, acknowledge, Said, refused, answered, queued, done, handed, run}
 use Rattle.demands.specs.Demand.{kept, stays, struck, Same}
-use Rattle.state.specs.State.{freshReader, freshNode, freshState, off, noReport, noAnswers}
+use Rattle.state.specs.State.{nothing, freshReader, freshNode, freshState, off, noReport}
 use Rattle.state.specs.Machine.{Machine, machine, regionOf}
 use Rattle.state.specs.declared.reader.Reader.{Reader}
 use Rattle.state.specs.declared.node.Node.{Node}
-use Rattle.promise.specs.Runs.{Heard, Chain, calls, lines, freshMachine, reached}
+use Rattle.promise.specs.Runs.{Heard, Chain, calls, lines, zeroStore, freshMachine, reached}
 
--- ---- the machines: lent is a store of zeros and a plaque memory of zeros
-abbrev pub zeroStore : List ℕ
-zeroStore = replicate 4096 0
-
+-- ---- the machines: lent is a plaque memory of zeros
 abbrev pub zeroMemory : List ℕ
 zeroMemory = replicate 16384 0
 
 abbrev pub begun : Machine
-begun = freshMachine zeroStore zeroMemory
+begun = freshMachine zeroMemory
 
 abbrev pub withTag : Reader
 withTag = record { plaque = record { present = true; id = idA; length = record { 0 = 4 } }; reading = off; report = noReport }
 
--- a plaque with the bytes 11 22 33 44 is at reader 2; nodes 2, 3 and 32 and the words at the front of the store are as given
-abbrev pub visited : Node → Node → Node → List ℕ → Machine
+-- a plaque with the bytes 11 22 33 44 is at reader 2; nodes 2, 3 and 32, the words that each holds, and the store are as given
+abbrev pub visited : Node × ℕ → Node × ℕ → Node × ℕ → List ℕ → Machine
 visited two three hub words = machine
     (record {
       name = freshState .name;
       readers = freshReader ∷ withTag ∷ replicate 14 freshReader;
-      nodes = freshNode ∷ two ∷ three ∷ (replicate 13 freshNode ++ (hub ∷ []));
+      nodes = freshNode ∷ two .0 ∷ three .0 ∷ (replicate 13 freshNode ++ (hub .0 ∷ []));
+      held = nothing ∷ record { 0 = two .1 } ∷ record { 0 = three .1 } ∷ (replicate 13 nothing ++ (record { 0 = hub .1 } ∷ []));
     })
     words (replicate 1024 0 ++ (0x11 ∷ 0x22 ∷ 0x33 ∷ 0x44 ∷ replicate 15356 0))
 
@@ -54,14 +52,16 @@ fourBytes = 0x0008 ∷ 0xAA05 ∷ 0x0002 ∷ 0x0313 ∷ 0x0A0B ∷ 0x2404 ∷ 0x
 abbrev pub allCleared : List ℕ
 allCleared = 0x0006 ∷ 0xAA79 ∷ 0x0020 ∷ 0x0313 ∷ 0x0A0B ∷ 0x2400 ∷ []
 
--- a node that has made one answer, has so many words of it pending from a place on, and has this handover number
-abbrev pub holding : ℕ → ℕ → ℕ → Node
-holding number place words =
-    record { instance = 1; handover = number; list = record { count = 1; place = place; words = record { 0 = words } } }
+-- a node that has made one answer, which is pending with so many words, and has handover number 1
+abbrev pub holding : ℕ → Node × ℕ
+holding words = (record { instance = 1; handover = 1; answers = 1 }, words)
 
--- one that has made one answer, which is gone
-abbrev pub relieved : ℕ → Node
-relieved number = record { instance = 1; handover = number; list = noAnswers }
+-- one that has made one answer, which is gone, so that it has number 2; one that has made none
+abbrev pub relieved : Node × ℕ
+relieved = (record { instance = 1; handover = 2; answers = 0 }, 0)
+
+abbrev pub silent : Node × ℕ
+silent = (freshNode, 0)
 
 abbrev pub heard : Call → Said → Machine → Heard
 heard c s m = record { call = c; said = s; after = m }
@@ -69,16 +69,16 @@ heard c s m = record { call = c; said = s; after = m }
 -- ---- a plaque arrives at reader 2; a search at reader 3 finds none; the plaque is read; there is none to leave reader 3 (14); the answer
 -- is collected in framed form, and acknowledged; 79 clears what is pending at node 3
 abbrev pub withPlaque : Machine
-withPlaque = visited freshNode freshNode freshNode zeroStore
+withPlaque = visited silent silent silent zeroStore
 
 abbrev pub withNotFound : Machine
-withNotFound = visited freshNode (holding 1 0 7) freshNode (notFound ++ replicate 4089 0)
+withNotFound = visited silent (holding 7) silent (notFound ++ replicate 4089 0)
 
 abbrev pub withBoth : Machine
-withBoth = visited (holding 1 7 8) (holding 1 0 7) freshNode (notFound ++ fourBytes ++ replicate 4081 0)
+withBoth = visited (holding 8) (holding 7) silent (fourBytes ++ notFound ++ replicate 4081 0)
 
 abbrev pub withOther : Machine
-withOther = visited (relieved 2) (holding 1 0 7) freshNode (notFound ++ fourBytes ++ replicate 4081 0)
+withOther = visited relieved (holding 7) silent (notFound ++ replicate 4089 0)
 
 unfoldable pub visit : List Heard
 visit =
@@ -88,15 +88,15 @@ visit =
     ∷ heard (leave 3) (refused 14) withBoth
     ∷ heard (collect Framed 2 134) (answered (handed (0xFF02 ∷ fourBytes) 1)) withBoth
     ∷ heard (acknowledge 2 1) (answered done) withOther
-    ∷ heard (cmd clears) queued (visited (relieved 2) (relieved 2) (holding 1 0 6) (allCleared ++ replicate 4090 0))
+    ∷ heard (cmd clears) queued (visited relieved relieved (holding 6) (allCleared ++ replicate 4090 0))
     ∷ []
 
--- the same without the two calls for reader 3: reader 2's answer lies elsewhere in the store, and node 3 is as it was
+-- the same without the two calls for reader 3: node 3 is as it was, and has no words in the store
 abbrev pub withFour : Machine
-withFour = visited (holding 1 0 8) freshNode freshNode (fourBytes ++ replicate 4088 0)
+withFour = visited (holding 8) silent silent (fourBytes ++ replicate 4088 0)
 
 abbrev pub withNone : Machine
-withNone = visited (relieved 2) freshNode freshNode (fourBytes ++ replicate 4088 0)
+withNone = visited relieved silent silent zeroStore
 
 unfoldable pub visitAlone : List Heard
 visitAlone =
@@ -104,7 +104,7 @@ visitAlone =
     ∷ heard (cmd (reads 2 0 4)) queued withFour
     ∷ heard (collect Framed 2 134) (answered (handed (0xFF02 ∷ fourBytes) 1)) withFour
     ∷ heard (acknowledge 2 1) (answered done) withNone
-    ∷ heard (cmd clears) queued (visited (relieved 2) freshNode (holding 1 0 6) (allCleared ++ replicate 4090 0))
+    ∷ heard (cmd clears) queued (visited relieved silent (holding 6) (allCleared ++ replicate 4090 0))
     ∷ []
 
 -- ---- a crowd: a plaque of 255 bytes arrives at readers 3, 4 and 5; six answers of 134 words each fill nodes 3 and 4 to 804; node 5 comes
@@ -148,4 +148,4 @@ pub record Crowded : Type 0 where
   pub chain-among : Chain full begun among
   pub chain-alone : Chain full begun alone
   pub same-lines : kept (λ l. stays full 1 (l .call)) (lines full 1 among) ≡ lines full 1 alone
-  pub same-end : Same 1 (reached zeroStore zeroMemory among) (reached zeroStore zeroMemory alone)
+  pub same-end : Same 1 (reached zeroMemory among) (reached zeroMemory alone)

@@ -1,5 +1,4 @@
 pub mod Obeyed
-pub mod Same
 pub mod Faults
 pub mod Runs
 pub mod Sixteen

@@ -2,6 +2,7 @@
 -- Assumes nothing.
 use Prim.Native.Nat.{ℕ}
 use mathlib.Core.List.{List, [], _∷_, map}
+use lib.ListN.{replicate}
 use Rattle.meaning.specs.Bench.{Bench, full}
 use Rattle.meaning.specs.Gateway.{Gateway}
 use Rattle.meaning.specs.Call.{Call, Said}
@@ -39,10 +40,13 @@ lines b i (h ∷ hs) =
     }
     ∷ lines b i hs
 
--- where every chain starts: a fresh state, with whatever the lent store and plaque memory hold
-abbrev pub freshMachine : List ℕ → List ℕ → Machine
-freshMachine store memory = machine freshState store memory
+-- where every chain starts: a fresh state, the store that making it zeroed, and whatever the lent plaque memory holds
+unfoldable pub zeroStore : List ℕ
+zeroStore = replicate (full .store) 0
+
+abbrev pub freshMachine : List ℕ → Machine
+freshMachine memory = machine freshState zeroStore memory
 
 -- the gateway that the code's machine means after such a chain
-abbrev pub reached : List ℕ → List ℕ → List Heard → Gateway
-reached store memory hs = meaning full (ended (freshMachine store memory) hs)
+abbrev pub reached : List ℕ → List Heard → Gateway
+reached memory hs = meaning full (ended (freshMachine memory) hs)

@@ -9,7 +9,7 @@ use Rattle.meaning.specs.Bench.{full}
 use Rattle.meaning.specs.Cases.{march, midnight, search, reads}
 use Rattle.meaning.specs.CasesOfCalls.{cmd, idA}
 use Rattle.meaning.specs.Call.{Call, command, check, arrive, leave, collect, acknowledge, Said}
-use Rattle.state.specs.State.{freshReader, freshNode, freshState, off, noReport}
+use Rattle.state.specs.State.{nothing, freshReader, freshNode, freshState, off, noReport}
 use Rattle.state.specs.Machine.{Machine, machine}
 use Rattle.state.specs.declared.reader.Reader.{Reader}
 use Rattle.state.specs.declared.node.Node.{Node}
@@ -22,25 +22,31 @@ pub data Input : Type 0 where
 unfoldable pub answer : Input → Said
 answer (c on m) = expected full c m .said
 
--- ---- machines: a fresh one, but for reader 1, for node 1 and for the words at the front of the store
-abbrev pub with : Reader → Node → List ℕ → Machine
-with r n store = machine (record { name = freshState .name; readers = r ∷ replicate 15 freshReader; nodes = n ∷ replicate 16 freshNode }) store (replicate 16384 0)
+-- ---- machines: a fresh one, but for reader 1, for node 1, the words that it holds, and the store
+abbrev pub with : Reader → Node → ℕ → List ℕ → Machine
+with r n words store =
+    machine (record {
+      name = freshState .name;
+      readers = r ∷ replicate 15 freshReader;
+      nodes = n ∷ replicate 16 freshNode;
+      held = record { 0 = words } ∷ replicate 16 nothing;
+    }) store (replicate 16384 0)
 
 abbrev pub idle : Machine
-idle = with freshReader freshNode (replicate 4096 0)
+idle = with freshReader freshNode 0 (replicate 4096 0)
 
 abbrev pub short : Machine
-short = with freshReader freshNode (replicate 4095 0)
+short = with freshReader freshNode 0 (replicate 4095 0)
 
 abbrev pub unnumbered : Machine
-unnumbered = with freshReader (record { instance = 0; handover = 0; list = freshNode .list }) (replicate 4096 0)
+unnumbered = with freshReader (record { instance = 0; handover = 0; answers = 0 }) 0 (replicate 4096 0)
 
 abbrev pub tagged : Machine
-tagged = with (record { plaque = record { present = true; id = idA; length = record { 0 = 4 } }; reading = off; report = noReport }) freshNode (replicate 4096 0)
+tagged = with (record { plaque = record { present = true; id = idA; length = record { 0 = 4 } }; reading = off; report = noReport }) freshNode 0 (replicate 4096 0)
 
 -- node 1 with an answer of 6 words pending
 abbrev pub waiting : Machine
-waiting = with freshReader (record { instance = 1; handover = 1; list = record { count = 1; place = 0; words = record { 0 = 6 } } })
+waiting = with freshReader (record { instance = 1; handover = 1; answers = 1 }) 6
     (0x0006 ∷ 0xAA08 ∷ 0x0001 ∷ 0x0101 ∷ 0x0000 ∷ 0x0000 ∷ replicate 4090 0)
 
 -- node 1 with six answers of 134 words each, 804 in all
@@ -48,7 +54,7 @@ abbrev pub longest : List ℕ
 longest = 0x0086 ∷ 0xAA05 ∷ 0x0001 ∷ 0x0101 ∷ 0x0000 ∷ 0x00FF ∷ replicate 128 0
 
 abbrev pub crowded : Machine
-crowded = with freshReader (record { instance = 6; handover = 1; list = record { count = 6; place = 0; words = record { 0 = 804 } } })
+crowded = with freshReader (record { instance = 6; handover = 1; answers = 6 }) 804
     (longest ++ longest ++ longest ++ longest ++ longest ++ longest ++ replicate 3292 0)
 
 -- in the order of the numbers
