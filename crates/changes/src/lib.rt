@@ -61,7 +61,7 @@ pub fn fill(
     if !q.ok {
         return settled(q);
     }
-    let at = i * Bytes::REGION.0 + m.start as usize;
+    let at = i * Bytes::REGION.0 as usize + m.start as usize;
     fill_bytes(plaques, at, m.size as usize, byte_at(words, 0));
     settled(q)
 }
@@ -90,7 +90,7 @@ pub fn write(
     if !added.ok {
         return settled(added);
     }
-    let begin = i * Bytes::REGION.0 + m.start as usize;
+    let begin = i * Bytes::REGION.0 as usize + m.start as usize;
     let end = begin + m.size as usize;
     unpack(words, &mut plaques[begin..end]);
     settled(added)

@@ -6,7 +6,7 @@ use mathlib.Core.Bool.{Bool, true, false, cond}
 use mathlib.Core.List.{List, [], _∷_, _++_, map, append-nil}
 use native.Mathlib.Omega.{arith}
 use lib.Dec.{leb, lit<}
-use lib.ListN.{length, getD, take, drop, replicate, length-map, length-take, length-drop, length-append, drop-of-length-le}
+use lib.ListN.{length, getD, take, drop, replicate, length-take, length-drop, length-append, drop-of-length-le}
 use lib.Seq.{take-at, drop-at}
 use borrow.Author.Tests.{leb-true, le-leb, le-ltb}
 use Rattle.units.specs.Count.{every}
@@ -27,23 +27,21 @@ use Rattle.meaning.specs.declared.packet.Response.{Response}
 use Rattle.demands.specs.Sound.{full-sound}
 use Rattle.demands.specs.Counts.{isSweep}
 use Rattle.demands.proofs.Room.{swept-empty}
-use Rattle.state.specs.State.{freshNode, emptiedNode, resetNode}
-use Rattle.state.specs.Machine.{Machine, machine, meaning, nodeOf}
-use Rattle.state.specs.Consistent.{heldsOf, chargesOf, zeros, nameOk, unfit}
+use Rattle.state.specs.State.{freshNode}
+use Rattle.state.specs.Machine.{Machine, machine, meaning, nodesIn}
+use Rattle.state.specs.Consistent.{counts, chargesOf, zeros, nameOk, unfit}
 use Rattle.state.specs.declared.node.Node.{Node}
 use Rattle.state.specs.declared.Name.{Name}
 use Rattle.state.specs.declared.State.{State}
-use Rattle.state.proofs.Lists.{getD-any}
+use Rattle.state.proofs.Lists.{both, getD-any}
+use Rattle.state.proofs.Read.{packed-of}
 use Rattle.lists.specs.Room.{roomFor}
-use Rattle.store.specs.Layout.{withNodes}
-use Rattle.store.proofs.Every.{both}
-use Rattle.store.proofs.Rooms.{helds-mean}
-use Rattle.store.proofs.Swept.{emptied-means, reset-means}
+use Rattle.store.specs.Changes.{Sound, Listed}
 use Rattle.promise.specs.Obeyed.{spoken, Does}
 use Rattle.promise.specs.declared.Reply.{Reply}
 use Rattle.promise.specs.declared.Called.{Called}
 use Rattle.promise.proofs.Parts.{parts, Means}
-use Rattle.promise.proofs.Nodes.{withName}
+use Rattle.promise.proofs.Nodes.{withName, many}
 use Rattle.promise.proofs.Promises.{spoken-either}
 use Rattle.promise.proofs.Tables.{node-hub}
 use Rattle.promise.proofs.Oldest.{count-is}
@@ -71,13 +69,16 @@ none-held : (z : Sweep) → isSweep z ≡ true → (l : List M.Node) → map hel
 none-held z s [] = refl
 none-held z s (x ∷ l) = rw (swept-empty z x s, none-held z s l)
 
-room-swept : (z : Sweep) → isSweep z ≡ true → (store : List ℕ) (ns ns₁ : List Node) → map (nodeOf store) ns₁ ≡ map (swept z) (map (nodeOf store) ns)
-    → length ns ≡ 17 → roomFor full (heldsOf store ns₁) 16 6 ≡ true
+room-swept : (z : Sweep) → isSweep z ≡ true → (m : Machine) → unfit full m ≡ 0 → (store₁ : List ℕ) (s₁ : State)
+    → Listed full (m .store) store₁ (m .state) s₁ (map (swept z) (nodesIn (m .store) (m .state .nodes)))
+    → roomFor full (counts (s₁ .held)) 16 6 ≡ true
 unfolding roomFor chargesOf
-room-swept z s store ns ns₁ e l =
-    let n : length (map (nodeOf store) ns) ≡ 17 = rw length-map l in
-    let h : heldsOf store ns₁ ≡ replicate 17 0 =
-    helds-mean store ns₁ ∙ ap (map held) e ∙ none-held z s (map (nodeOf store) ns) ∙ ap (λ (k : ℕ). replicate k 0) n in
+room-swept z s m fit store₁ s₁ clean =
+    let p = parts full m fit in
+    let ms = nodesIn (m .store) (m .state .nodes) in
+    let h : counts (s₁ .held) ≡ replicate 17 0 =
+    packed-of full store₁ (s₁ .nodes) (s₁ .held) (clean .long ∙ p .store) (clean .lists) .helds
+    ∙ ap (map held) (clean .nodes) ∙ none-held z s ms ∙ ap (λ (k : ℕ). replicate k 0) (many full m p) in
     ap (λ (hs : List ℕ). roomFor full hs 16 6) h
 
 -- ---- the bytes of a new name: what came, and zeros behind it
@@ -120,6 +121,10 @@ module _ (n c : ℕ) (xs bytes : List ℕ) (short : n ≤ 64) (whole : n ≡ len
       ∙ append-nil _ ∙ ap (λ (k : ℕ). take k xs) l in
       take-at bytes (drop n blank) n front-long ∙ e ∙ ap (λ (k : ℕ). take k xs) whole ∙ take-own c xs
 
+-- ---- what `clear` and `reset` ask, and an answer
+pub lists-sound : (m : Machine) → unfit full m ≡ 0 → Sound full (m .store) (m .state)
+lists-sound m fit = let p = parts full m fit in record { size = p .store; lists = p .lists }
+
 -- ---- an answer of the gateway's own node, by the code's response r
 abbrev pub saying : Stamp → ℕ → ℕ → Response
 saying t count echo = record { error = false; echo = echo; count = count; node = 32; stamp = t }
@@ -128,11 +133,9 @@ pub able : (store : List ℕ) (s : State) (memory : List ℕ) → unfit full (ma
     → r ≡ saying t count echo → (n : ℕ) → n ≤ 255 → Answerable full store s 16 r n
 unfolding amountWrong
 able store s memory fit t good count echo r e n short =
-    let p = parts full (machine s store memory) fit in
-    let l = p .eachNode in
+    let l = parts full (machine s store memory) fit .eachNode in
     record {
-      size = p .store;
-      lists = p .lists;
+      sound = lists-sound (machine s store memory) fit;
       index = omega arith;
       node = ap (λ (r : Response). r .node) e;
       stamp = ap (λ (r : Response). isStamp (r .stamp)) e ∙ good;
@@ -200,15 +203,17 @@ module _ (m : Machine) (fit : unfit full m ≡ 0) (t : Stamp) (good : isStamp t 
     name-set e x o long is =
         hub-queued full full-sound m fit _ _ _ name-same name-formed ok store′ s′ title due q e x o long is
 
-  -- 61 and 79: s₁ is the state swept; there is always room
+  -- 61 and 79: store₁ and s₁ are store and state swept; there is always room
+  abbrev Swept : Sweep → List ℕ → State → Type 0
+  Swept z store₁ s₁ = Listed full (m .store) store₁ (m .state) s₁ (map (swept z) (nodesIn (m .store) (m .state .nodes)))
+
   module _ (k : OfGateway) (z : Sweep) (sweeps : isSweep z ≡ true) (echo : ℕ) (small : echo < 256)
       (due : ruled (meaning full m .nodes hub) (meaning full m .name) t k bs
       ≡ Local.due (record { broom = z; title = meaning full m .name }) (answer hub (swept z (meaning full m .nodes hub)) t echo []))
-      (count : ℕ) (c : swept z (meaning full m .nodes hub) .count ≡ count) (s₁ : State)
-      (clean : Means full (machine s₁ (m .store) (m .memory)) (sweep z (meaning full m)))
-      (emptied : map (nodeOf (m .store)) (s₁ .nodes) ≡ map (swept z) (map (nodeOf (m .store)) (m .state .nodes)))
+      (count : ℕ) (c : swept z (meaning full m .nodes hub) .count ≡ count) (store₁ : List ℕ) (s₁ : State) (clean : Swept z store₁ s₁)
+      (means : Means full (machine s₁ store₁ (m .memory)) (sweep z (meaning full m)))
       (a : Response) (ae : a ≡ saying t count echo) (ok : Bool) (store′ : List ℕ) (s′ : State)
-      (q : Queued full ok (m .store) store′ s₁ s′ 16 (responseBody a [])) where
+      (q : Queued full ok store₁ store′ s₁ s′ 16 (responseBody a [])) where
     told-swept : (r : Called) → r ≡ settledAs ok s′ → Governs k r store′
     unfolding governing spoken responseBody
     told-swept r is =
@@ -216,33 +221,28 @@ module _ (m : Machine) (fit : unfit full m ≡ 0) (t : Stamp) (good : isStamp t 
         let same : responseBody a [] ≡ answer hub x t echo [] =
         ap (λ (a : Response). responseBody a []) ae ∙ sym (answer-is hub x t count c echo []) in
         let formed = answer-formed full full-sound hub 16 refl x t (node-hub full) good _ echo [] same small (omega arith) in
-        let e : ok ≡ true = q .0 ∙ room-swept z sweeps (m .store) (m .state .nodes) (s₁ .nodes) emptied (parts full m fit .eachNode) in
+        let e : ok ≡ true = q .0 ∙ room-swept z sweeps m fit store₁ s₁ clean in
         subst (λ (r : Called). Governs k r store′) (sym (is ∙ ap (λ (b : Bool). settledAs b s′) e))
-        (swept-queued full full-sound m fit _ _ _ same formed ok store′ s′ z due s₁ clean q e)
+        (swept-queued full full-sound m fit _ _ _ same formed ok store′ s′ z due s₁ store₁ means q e)
 
   -- 61
-  module _ (s₁ : State) (e : s₁ ≡ withNodes (m .state) (map resetNode (m .state .nodes))) where
-    pub reset-fit : unfit full (machine s₁ (m .store) (m .memory)) ≡ 0
-    reset-fit = ap (λ (s : State). unfit full (machine s (m .store) (m .memory))) e ∙ restarted full m fit .fit
+  module _ (store₁ : List ℕ) (s₁ : State) (clean : Swept resetting store₁ s₁) where
+    pub reset-fit : unfit full (machine s₁ store₁ (m .memory)) ≡ 0
+    reset-fit = restarted full m fit store₁ s₁ clean .fit
 
     pub told-reset : (a : Response) → a ≡ saying t 0 0x61 → (ok : Bool) (store′ : List ℕ) (s′ : State)
-        → Queued full ok (m .store) store′ s₁ s′ 16 (responseBody a []) → (r : Called) → r ≡ settledAs ok s′ → Governs ResetGateway r store′
+        → Queued full ok store₁ store′ s₁ s′ 16 (responseBody a []) → (r : Called) → r ≡ settledAs ok s′ → Governs ResetGateway r store′
     unfolding ruled swept isSweep
-    told-reset a ae ok store′ s′ q r is =
-        told-swept ResetGateway resetting refl 0x61 (lit< tt) refl 0 refl (withNodes (m .state) (map resetNode (m .state .nodes))) (restarted full m fit)
-        (reset-means (m .store) (m .state .nodes)) a ae ok store′ s′
-        (subst (λ (u : State). Queued full ok (m .store) store′ u s′ 16 (responseBody a [])) e q) r is
+    told-reset = told-swept ResetGateway resetting refl 0x61 (lit< tt) refl 0 refl store₁ s₁ clean (restarted full m fit store₁ s₁ clean)
 
   -- 79
-  module _ (s₁ : State) (e : s₁ ≡ withNodes (m .state) (map emptiedNode (m .state .nodes))) where
-    pub clear-fit : unfit full (machine s₁ (m .store) (m .memory)) ≡ 0
-    clear-fit = ap (λ (s : State). unfit full (machine s (m .store) (m .memory))) e ∙ cleared full m fit .fit
+  module _ (store₁ : List ℕ) (s₁ : State) (clean : Swept clearing store₁ s₁) where
+    pub clear-fit : unfit full (machine s₁ store₁ (m .memory)) ≡ 0
+    clear-fit = cleared full m fit store₁ s₁ clean .fit
 
     pub told-clear : (d : Node) (a : Response) → a ≡ saying t (getD (m .state .nodes) 16 d .instance) 0x79 → (ok : Bool) (store′ : List ℕ) (s′ : State)
-        → Queued full ok (m .store) store′ s₁ s′ 16 (responseBody a []) → (r : Called) → r ≡ settledAs ok s′ → Governs Clear r store′
+        → Queued full ok store₁ store′ s₁ s′ 16 (responseBody a []) → (r : Called) → r ≡ settledAs ok s′ → Governs Clear r store′
     unfolding ruled isSweep
-    told-clear d a ae ok store′ s′ q r is =
+    told-clear d =
         told-swept Clear clearing refl 0x79 (lit< tt) refl _ (kept-count (meaning full m .nodes hub) ∙ own-count d)
-        (withNodes (m .state) (map emptiedNode (m .state .nodes))) (cleared full m fit)
-        (emptied-means (m .store) (m .state .nodes)) a ae ok store′ s′
-        (subst (λ (u : State). Queued full ok (m .store) store′ u s′ 16 (responseBody a [])) e q) r is
+        store₁ s₁ clean (cleared full m fit store₁ s₁ clean)

@@ -50,7 +50,7 @@ fn get_name(
     let own = s.nodes[16];
     let name = s.name;
     let bytes = name.bytes;
-    let length = name.length.0;
+    let length = name.length.0 as usize;
     settled(answer(
         s,
         16,
@@ -82,7 +82,7 @@ fn set_name(
     unpack(words, &mut bytes[..length]);
     let mut u = q.state;
     let name = Name {
-        length: Bytes(length),
+        length: Bytes(m.size),
         bytes,
     };
     u.name = name;
@@ -134,7 +134,7 @@ fn reset_gateway(
     requires { ⌜ Ruling full t ResetGateway m (now words) (machine s (now store) (now plaques)) ⌝ }
     ensures { λ r. ⌜ Makes full (governing full (meaning full (machine s (now (store .entry)) (now (plaques .entry)))) t ResetGateway (loadOf full m (now (words .entry)))) s (now (store .entry)) (now (plaques .entry)) r (now (store .exit)) (now (plaques .entry)) ⌝ }
 {
-    let u = reset(s);
+    let u = reset(s, store);
     settled(answer(u, 16, response(0, t, 0x61), b"", store))
 }
 
@@ -151,7 +151,7 @@ fn clear_lists(
     ensures { λ r. ⌜ Makes full (governing full (meaning full (machine s (now (store .entry)) (now (plaques .entry)))) t Clear (loadOf full m (now (words .entry)))) s (now (store .entry)) (now (plaques .entry)) r (now (store .exit)) (now (plaques .entry)) ⌝ }
 {
     let n = s.nodes[16];
-    let u = clear(s);
+    let u = clear(s, store);
     settled(answer(u, 16, response(n.instance, t, 0x79), b"", store))
 }
 

@@ -73,8 +73,8 @@ pub fn leave(s: State, node: u8, store: &[u16], plaques: &[u8]) -> Called
 }
 
 // An answer is acknowledged.
-pub fn acknowledge(s: State, node: u8, number: u16, store: &[u16], plaques: &[u8]) -> Called
-    ensures { λ r. ⌜ Answers full (S.acknowledge node number) s (now (store .entry)) (now (plaques .entry)) r (now (store .entry)) (now (plaques .entry)) ⌝ }
+pub fn acknowledge(s: State, node: u8, number: u16, store: &mut [u16], plaques: &[u8]) -> Called
+    ensures { λ r. ⌜ Answers full (S.acknowledge node number) s (now (store .entry)) (now (plaques .entry)) r (now (store .exit)) (now (plaques .entry)) ⌝ }
 {
     let k = unfit(s, store, plaques);
     if k != 0 {

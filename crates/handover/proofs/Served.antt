@@ -1,22 +1,27 @@
 -- A call at a node, as the code decides it: the node's slot, and a promise without refusals 1 and 2.
 -- Assumes nothing.
-use Prim.Native.Nat.{ℕ, _≤_, _<_}
-use mathlib.Core.Path.{_≡_, refl, sym, _∙_, subst}
+use Prim.Native.Nat.{ℕ, _+_, _≤_, _<_}
+use mathlib.Core.Path.{_≡_, refl, sym, ap, _∙_, subst}
 use mathlib.Core.Bool.{Bool, true, false, cond}
 use native.Mathlib.Omega.{arith}
-use lib.ListN.{getD}
+use mathlib.Core.List.{List}
+use lib.ListN.{length, getD, take, drop}
+use lib.Seq.{getD-drop}
 use borrow.Author.Tests.{eq-eqb}
 use Rattle.units.proofs.Choice.{yes-cond, no-cond}
 use Rattle.meaning.specs.Bench.{Bench, full, isNode}
 use Rattle.meaning.specs.Call.{Call, Said, refused, Outcome, step}
 use Rattle.state.specs.Machine.{Machine, nodeSlot, machine, meaning}
 use Rattle.state.specs.State.{freshNode}
-use Rattle.state.specs.Consistent.{unfit}
-use Rattle.state.proofs.InOrder.{blank, node-any}
+use Rattle.meaning.specs.Packet.{overall}
+use Rattle.state.specs.Consistent.{counts, unfit}
+use Rattle.state.proofs.Read.{blank, node-any}
 use Rattle.promise.specs.Obeyed.{spoken, Does, Obeyed, expected, Makes}
 use Rattle.promise.specs.declared.Reply.{Reply}
 use Rattle.promise.specs.declared.Called.{Called}
+use Rattle.lists.specs.Room.{placeOf}
 use Rattle.promise.proofs.Parts.{parts}
+use Rattle.promise.proofs.Oldest.{takes, oldest}
 use Rattle.promise.proofs.Tables.{node-inside}
 
 -- ---- the slot that is found for a node, 17 for none
@@ -45,6 +50,28 @@ pub found : (m : Machine) → unfit full m ≡ 0 → (n i : ℕ) → i ≡ cond 
 found m fits n i e h =
     let p = slot-in n i e h in
     record { is = p .0; slot = p .1; at = sym (node-any (m .state .nodes) i (omega (arith, parts full m fits .eachNode))) }
+
+-- ---- the oldest answer of a node, which stands at its place: the code reads there how many words it has
+pub record Stands (m : Machine) (place : ℕ) (w : List ℕ) : Type 0 where
+  pub says : getD (m .store) place 0 ≡ length w
+  pub words : take (getD (m .store) place 0) (drop place (m .store)) ≡ w
+  pub least : 6 ≤ length w
+  pub most : length w ≤ overall 255
+  pub inside : place + length w ≤ length (m .store)
+
+pub stands : (m : Machine) (fits : unfit full m ≡ 0) (n i : ℕ) (f : Found m n i) (some : 0 < getD (m .state .nodes) i blank .answers) (place : ℕ)
+    → place ≡ placeOf (counts (m .state .held)) i → Stands m place (oldest full m fits n i (f .is) (f .slot) _ (f .at) some)
+stands m fits n i f some place e =
+    let k = takes full m fits n i (f .is) (f .slot) (getD (m .state .nodes) i blank) (f .at) some in
+    let g : getD (drop place (m .store)) 0 0 ≡ getD (m .store) place 0 = getD-drop place (m .store) 0 0 ∙ ap (λ (j : ℕ). getD (m .store) j 0) (omega arith) in
+    let w : take (getD (drop place (m .store)) 0 0) (drop place (m .store)) ≡ k .oldest = rw e (k .stands) in
+    record {
+      says = rw e (k .says);
+      words = rw g at w;
+      least = k .least;
+      most = k .most;
+      inside = omega (arith, k .before, k .inside);
+    }
 
 -- ---- the promise on a machine that has neither refusal
 module _ (b : Bench) (m : Machine) (fits : unfit b m ≡ 0) (c : Call) where

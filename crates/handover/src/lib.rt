@@ -1,45 +1,43 @@
 // Answers collected and acknowledged, on a machine that is known to be consistent.
 use answers::refused;
 use answers::slots::node_slot;
+use lists::room::place_of;
+use moves::copy_in;
 use promise::Called;
 use promise::Handout;
 use promise::Reply;
 use responseout::bears;
 use state::State;
-use store::copy_in;
+use store::take;
 use units::Form;
 use units::Words;
 use units::packing::word;
 ghost use mathlib.Core.Path.{_≡_};
 ghost use Prim.Native.Nat.{_+_, _≤_};
-ghost use lib.ListN.{length, getD};
+ghost use lib.ListN.{length, getD, take, drop};
 ghost use Rattle.meaning.specs.Bench.{full};
 ghost use Rattle.meaning.specs.Call.{collect, acknowledge, step};
-ghost use Rattle.state.specs.Machine.{machine, meaning, answerAt};
+ghost use Rattle.state.specs.Machine.{machine, meaning};
 ghost use Rattle.state.specs.Consistent.{unfit};
-ghost use Rattle.store.specs.Layout.{putIn};
+ghost use Rattle.moves.specs.Moved.{putIn};
 ghost use Rattle.promise.specs.Obeyed.{Makes, Collects};
 
-pub fn acknowledge(s: State, node: u8, number: u16, store: &[u16], plaques: &[u8]) -> Called
+pub fn acknowledge(s: State, node: u8, number: u16, store: &mut [u16], plaques: &[u8]) -> Called
     requires { ⌜ unfit full (machine s (now store) (now plaques)) ≡ 0 ⌝ }
-    ensures { λ r. ⌜ Makes full (step full (meaning full (machine s (now (store .entry)) (now (plaques .entry)))) (acknowledge node number)) s (now (store .entry)) (now (plaques .entry)) r (now (store .entry)) (now (plaques .entry)) ⌝ }
+    ensures { λ r. ⌜ Makes full (step full (meaning full (machine s (now (store .entry)) (now (plaques .entry)))) (acknowledge node number)) s (now (store .entry)) (now (plaques .entry)) r (now (store .exit)) (now (plaques .entry)) ⌝ }
 {
     let i = node_slot(node);
     if 17 <= i {
         return refused(s, 7);
     }
     let n = s.nodes[i];
-    let list = n.list;
-    if list.count == 0 {
+    if n.answers == 0 {
         return refused(s, 14);
     }
     if number != n.handover {
         return refused(s, 15);
     }
-    let place = list.place;
-    let m = n.taken(Words(store[place] as usize));
-    let mut t = s;
-    t.nodes[i] = m;
+    let t = take(s, i, store);
     Called {
         reply: Reply::Done,
         state: t,
@@ -49,10 +47,9 @@ pub fn acknowledge(s: State, node: u8, number: u16, store: &[u16], plaques: &[u8
 // Copies the answer at a place of the store into out from a place on.
 fn copy_answer(store: &[u16], place: usize, out: &mut [u16], to: usize)
     requires { ⌜ (place + getD (now store) place 0 ≤ length (now store)) × (1 ≤ getD (now store) place 0) × (to + getD (now store) place 0 ≤ length (now out)) ⌝ }
-    ensures { λ _. ⌜ now (out .exit) ≡ putIn (now (out .entry)) to (answerAt (now (store .entry)) place) ⌝ }
+    ensures { λ _. ⌜ now (out .exit) ≡ putIn (now (out .entry)) to (take (getD (now (store .entry)) place 0) (drop place (now (store .entry)))) ⌝ }
 {
-    let words = Words(store[place] as usize);
-    let end = place + words.0;
+    let end = place + store[place] as usize;
     copy_in(&store[place..end], out, to);
 }
 
@@ -73,23 +70,23 @@ pub fn collect(
         return Handout::Refused(7);
     }
     let n = s.nodes[i];
-    let list = n.list;
-    if list.count == 0 {
+    if n.answers == 0 {
         return Handout::Refused(14);
     }
-    let place = list.place;
-    let words = Words(store[place] as usize);
+    let held = s.held;
+    let place = place_of(held, i);
+    let words = store[place];
     if bears(form, node) {
-        if out.len() < words.0 + 1 {
+        if out.len() < words as usize + 1 {
             return Handout::Refused(16);
         }
         out[0] = word(0xFF, node);
         copy_answer(store, place, out, 1);
-        return Handout::Handed(Words(words.0 + 1), n.handover);
+        return Handout::Handed(Words(words + 1), n.handover);
     }
-    if out.len() < words.0 {
+    if out.len() < words as usize {
         return Handout::Refused(16);
     }
     copy_answer(store, place, out, 0);
-    Handout::Handed(words, n.handover)
+    Handout::Handed(Words(words), n.handover)
 }

@@ -29,13 +29,13 @@ pub fn copy_bytes(src: &[u8], dst: &mut [u8], to: usize)
 }
 
 // An ID by value.
-fn eight(id: &[u8]) -> [u8; Bytes::ID.0]
+fn eight(id: &[u8]) -> [u8; Bytes::ID.0 as usize]
     requires { ⌜ length (now id) ≡ 8 ⌝ }
     ensures { λ r. ⌜ r ≡ now (id .entry) ⌝ }
 {
-    let mut a = [0u8; Bytes::ID.0];
+    let mut a = [0u8; Bytes::ID.0 as usize];
     let mut j: usize = 0;
-    while j < Bytes::ID.0 {
+    while j < Bytes::ID.0 as usize {
         a[j] = id[j];
         j += 1;
     }
@@ -79,18 +79,18 @@ pub fn arrive(
     if 16 <= i {
         return refused(s, 7);
     }
-    if id.len() != Bytes::ID.0 {
+    if id.len() != Bytes::ID.0 as usize {
         return refused(s, 9);
     }
     if bytes.len() < 1 {
         return refused(s, 10);
     }
-    if Bytes::REGION.0 < bytes.len() {
+    if (Bytes::REGION.0 as usize) < bytes.len() {
         return refused(s, 10);
     }
     let x = s.readers[i];
-    let y = x.arrived(eight(id), Bytes(bytes.len()));
-    copy_bytes(bytes, plaques, i * Bytes::REGION.0);
+    let y = x.arrived(eight(id), Bytes(bytes.len() as u16));
+    copy_bytes(bytes, plaques, i * Bytes::REGION.0 as usize);
     let mut t = s;
     t.readers[i] = y;
     Called {

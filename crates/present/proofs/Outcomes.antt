@@ -28,7 +28,7 @@ use Rattle.state.specs.declared.reader.Plaque.{Plaque}
 use Rattle.state.specs.declared.reader.Reader.{Reader}
 use Rattle.state.specs.declared.State.{State}
 use Rattle.store.specs.declared.Queued.{Queued}
-use Rattle.state.proofs.InOrder.{blank}
+use Rattle.state.proofs.Read.{blank}
 use Rattle.promise.specs.Obeyed.{spoken, Does, Makes}
 use Rattle.promise.specs.declared.Reply.{Reply}
 use Rattle.promise.specs.declared.Called.{Called}
@@ -111,8 +111,7 @@ module _ {m : Machine} {t : Stamp} {k : OnPlaque} {c : Command} {words : List �
   answerable r bytes n s a =
       let p = parts full m (o .fit) in
       record {
-        size = p .store;
-        lists = p .lists;
+        sound = record { size = p .store; lists = p .lists };
         index = omega (arith, index, p .eachNode);
         node = n ∙ sym (reader-index full (c .node) (o .reader));
         stamp = ap isStamp s ∙ o .stamp;

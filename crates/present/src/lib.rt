@@ -25,5 +25,5 @@ pub fn response(count: u8, node: u8, t: Stamp, echo: u8) -> Response
 pub fn past(plaque: Plaque, m: Command) -> bool
     ensures { λ r. ⌜ r ≡ ltb (plaque .length .0) (m .start + m .size) ⌝ }
 {
-    plaque.length.0 < m.start as usize + m.size as usize
+    (plaque.length.0 as usize) < m.start as usize + m.size as usize
 }

@@ -13,7 +13,7 @@ use Rattle.meaning.specs.Call.{answer}
 use Rattle.demands.specs.Sound.{full-sound}
 use Rattle.state.specs.Machine.{Machine, meaning}
 use Rattle.state.specs.Consistent.{nodeAt, unfit}
-use Rattle.state.proofs.InOrder.{blank}
+use Rattle.state.proofs.Read.{blank}
 use Rattle.promise.proofs.Tables.{reader-node}
 use Rattle.promise.proofs.Answers.{reader-index, answer-is, answer-formed}
 use Rattle.answers.proofs.Indices.{count-there}

@@ -22,7 +22,7 @@ use Rattle.state.specs.Consistent.{readingOk, reportOk}
 use Rattle.state.specs.declared.reader.Reading.{Reading}
 use Rattle.state.specs.declared.reader.Reader.{Reader}
 use Rattle.state.specs.declared.State.{State}
-use Rattle.store.proofs.Every.{both}
+use Rattle.state.proofs.Lists.{both}
 use Rattle.promise.specs.Obeyed.{Does}
 use Rattle.promise.proofs.Parts.{parts}
 use Rattle.promise.proofs.Regions.{untouched}

@@ -54,7 +54,7 @@ fn look(
     if report.repeated(id, clock, reading.delay) {
         return quiet(s);
     }
-    if plaque.length.0 < reading.start as usize + size {
+    if plaque.length.0 < reading.start + size {
         return refused(s, 12);
     }
     report_plaque(s, i, node, t, clock, store, plaques)
@@ -75,8 +75,8 @@ fn report_plaque(
 {
     let x = s.readers[i];
     let reading = x.reading;
-    let from = i * Bytes::REGION.0 + reading.start as usize;
-    let to = from + reading.size.0;
+    let from = i * Bytes::REGION.0 as usize + reading.start as usize;
+    let to = from + reading.size.0 as usize;
     let n = s.nodes[i];
     let r = Response {
         error: false,

@@ -68,7 +68,7 @@ pub fn start(
 {
     let reading = Reading {
         start: m.start,
-        size: Bytes(m.size as usize),
+        size: Bytes(m.size),
         delay: (m.word4 % 256) as u8,
     };
     turn(s, t, m.node, 0x0D, reading, store, plaques)

@@ -36,7 +36,7 @@ pub fn read(
     if past(plaque, m) {
         return refused(s, 12);
     }
-    let from = i * Bytes::REGION.0 + m.start as usize;
+    let from = i * Bytes::REGION.0 as usize + m.start as usize;
     let to = from + m.size as usize;
     let n = s.nodes[i];
     settled(answer(

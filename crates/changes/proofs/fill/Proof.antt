@@ -63,13 +63,16 @@ returns-2 c =
     .before .pre) (c .before .before .before .before .before .before .before .before .response .ensures)
     (c .before .before .before .before .before .answer .ensures) (not-true _ (c .before .if2 .taken)))
 
+cast-at : tie.Need-cast-at
+cast-at c = search needs
+
 mul-at : tie.Need-mul-at
 mul-at c =
     let i = index (c .before .before .before .before .before .before .before .before .before .before .before .before .before .before
     .before .before .before .pre .orderly) in search needs
 
-cast-at : tie.Need-cast-at
-cast-at c = search needs
+cast-at-2 : tie.Need-cast-at-2
+cast-at-2 c = search needs
 
 add-at : tie.Need-add-at
 add-at c = search needs
@@ -131,8 +134,9 @@ fill-spec =
     settled-requires
     same-length
     returns-2
-    mul-at
     cast-at
+    mul-at
+    cast-at-2
     add-at
     cast-fill-bytes
     byte-at-requires

@@ -63,13 +63,16 @@ returns-2 c =
     .before .pre) (c .before .before .before .before .before .before .before .before .response .ensures)
     (c .before .before .before .before .before .answer .ensures) (not-true _ (c .before .if2 .taken)))
 
+cast-begin : tie.Need-cast-begin
+cast-begin c = search needs
+
 mul-begin : tie.Need-mul-begin
 mul-begin c =
     let i = index (c .before .before .before .before .before .before .before .before .before .before .before .before .before .before
     .before .before .before .pre .orderly) in search needs
 
-cast-begin : tie.Need-cast-begin
-cast-begin c = search needs
+cast-begin-2 : tie.Need-cast-begin-2
+cast-begin-2 c = search needs
 
 add-begin : tie.Need-add-begin
 add-begin c = search needs
@@ -139,8 +142,9 @@ write-spec =
     settled-requires
     same-length
     returns-2
-    mul-begin
     cast-begin
+    mul-begin
+    cast-begin-2
     add-begin
     cast-end
     add-end

@@ -12,22 +12,31 @@ use Rattle.desk.proofs.get_name.Tie as tie
 element-copy-out-own : tie.Need-element-copy-out-own
 element-copy-out-own c = search needs
 
+cast-length : tie.Need-cast-length
+cast-length c = search needs
+
 response-requires : tie.Need-response-requires
 response-requires c κs = search needs
 
 array-share-prefix-bytes : tie.Need-array-share-prefix-bytes
 array-share-prefix-bytes c =
-    let s = c .before .before .before .before .before .before .before in let a = s .args in let m = machine (a .t1) (now (a .store)) (now (a .plaques)) in
+    let s = c .before .before .before .before .before .before .before .before in
+    let a = s .args in
+    let m = machine (a .t1) (now (a .store)) (now (a .plaques)) in
     name-inside m (s .pre .fit) (a .t) (s .pre .stamp) []
 
 slice-aggregate-answer : tie.Need-slice-aggregate-answer
 slice-aggregate-answer c =
-    let s = c .before .before .before .before .before .before .before .before in let a = s .args in let m = machine (a .t1) (now (a .store)) (now (a .plaques)) in
+    let s = c .before .before .before .before .before .before .before .before .before in
+    let a = s .args in
+    let m = machine (a .t1) (now (a .store)) (now (a .plaques)) in
     sym (length-take-le _ _ (name-inside m (s .pre .fit) (a .t) (s .pre .stamp) []))
 
 answer-requires : tie.Need-answer-requires
 answer-requires c κs =
-    let s = c .before .before .before .before .before .before .before .before .before in let a = s .args in let m = machine (a .t1) (now (a .store)) (now (a .plaques)) in
+    let s = c .before .before .before .before .before .before .before .before .before .before in
+    let a = s .args in
+    let m = machine (a .t1) (now (a .store)) (now (a .plaques)) in
     let h = name-short m (s .pre .fit) (a .t) (s .pre .stamp) [] in
     able _ _ (now (a .plaques)) (s .pre .fit) (a .t) (s .pre .stamp) _ _ _ (c .before .before .response .ensures) _ (omega arith)
 
@@ -40,14 +49,18 @@ same-length c = search needs
 returns : tie.Need-returns
 unfolding meaning
 returns c =
-    let s = c .before .before .before .before .before .before .before .before .before .before .before .before .before in let a = s .args in let m = machine (a .t1) (now (a .store)) (now (a .plaques)) in
-    told-name m (s .pre .fit) (a .t) (s .pre .stamp) _ _ _ (c .before .before .before .before .before .before .response .ensures) _ refl _ _ _ (c .before .before .before .answer .ensures) _ (c .settled .ensures)
+    let s = c .before .before .before .before .before .before .before .before .before .before .before .before .before .before in
+    let a = s .args in
+    let m = machine (a .t1) (now (a .store)) (now (a .plaques)) in
+    told-name m (s .pre .fit) (a .t) (s .pre .stamp) _ _ _ (c .before .before .before .before .before .before .response .ensures) _ refl _ _
+    _ (c .before .before .before .answer .ensures) _ (c .settled .ensures)
 
 pub get-name-spec : {M : Type 1} → statement M
 get-name-spec =
     tie.close
     (tie.spec
     element-copy-out-own
+    cast-length
     response-requires
     array-share-prefix-bytes
     slice-aggregate-answer

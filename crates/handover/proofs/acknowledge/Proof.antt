@@ -1,17 +1,15 @@
 use borrow.Author.Needs.{needs}
 use native.Mathlib.Omega.{arith}
-use mathlib.Core.Path.{sym, subst}
-use lib.ListN.{getD, set}
+use Prim.Native.Nat.{_<_}
+use mathlib.Core.Path.{sym}
+use lib.ListN.{getD}
 use Rattle.meaning.specs.Bench.{full}
-use Rattle.meaning.specs.Call.{acknowledge, answered, done, step}
-use Rattle.state.specs.Machine.{Machine, machine, meaning}
+use Rattle.meaning.specs.Call.{acknowledge}
+use Rattle.state.specs.Machine.{Machine, machine}
 use Rattle.state.specs.declared.node.Node.{Node}
-use Rattle.state.proofs.Formed.{Lies}
-use Rattle.state.proofs.InOrder.{blank}
-use Rattle.store.specs.Layout.{withNodes}
-use Rattle.promise.specs.Obeyed.{spoken, Does}
-use Rattle.promise.proofs.Parts.{parts}
-use Rattle.promise.proofs.Oldest.{oldest-lies, oldest-counted, acked-7, acked-14, acked-15, acked-0}
+use Rattle.state.proofs.Read.{blank}
+use Rattle.promise.specs.Obeyed.{spoken}
+use Rattle.promise.proofs.Oldest.{lists-sound, acked-7, acked-14, acked-15, acked-0}
 use Rattle.handover.proofs.Served.{slot-out, Found, found, by-fit, refusing}
 use Rattle.handover.proofs.acknowledge.Statement.{statement}
 use Rattle.handover.proofs.acknowledge.Tie as tie
@@ -24,11 +22,9 @@ abbrev node : (c : tie.Else1) → Node
 node c = getD (c .before .before .before .before .args .t1 .nodes) (c .before .node-slot .result) blank
 
 here : (c : tie.Else1) → Found (given (c .before .before .before .before)) (c .before .before .before .before .args .node) (c .before .node-slot .result)
-here c = found (given (c .before .before .before .before)) (c .before .before .before .before .pre) (c .before .before .before .before .args .node) (c .before .node-slot .result) (c .before .node-slot .ensures) (c .if1 .left)
-
--- its oldest answer lies in the store
-oldest : (c : tie.Else2) → Lies full (c .before .before .before .before .before .before .before .before .args .store .now) (c .before .before .before .before .before .node-slot .result) (node (c .before .before .before .before) .list .place)
-oldest c = let f = here (c .before .before .before .before) in oldest-lies full (given (c .before .before .before .before .before .before .before .before)) (c .before .before .before .before .before .before .before .before .pre) (c .before .before .before .before .before .before .before .before .args .node) (c .before .before .before .before .before .node-slot .result) (f .is) (f .slot) (node (c .before .before .before .before)) (f .at) (omega arith)
+here c =
+    let s = c .before .before .before .before in
+    found (given s) (s .pre) (s .args .node) (c .before .node-slot .result) (c .before .node-slot .ensures) (c .if1 .left)
 
 node-slot-requires : tie.Need-node-slot-requires
 node-slot-requires c κs = search needs
@@ -38,9 +34,11 @@ refused-requires c κs = search needs
 
 returns : tie.Need-returns
 returns c =
-    let a = c .before .before .before .before .before .args in
-    refusing full (given (c .before .before .before .before .before)) (c .before .before .before .before .before .pre) (acknowledge (a .node) (a .number)) 7 _ (c .refused .ensures)
-    (acked-7 full (given (c .before .before .before .before .before)) (c .before .before .before .before .before .pre) (a .node) (a .number) (slot-out (a .node) (c .before .before .node-slot .result) (c .before .before .node-slot .ensures) (c .before .if1 .taken)))
+    let s = c .before .before .before .before .before in
+    let a = s .args in
+    let i = c .before .before .node-slot in
+    refusing full (given s) (s .pre) (acknowledge (a .node) (a .number)) 7 _ (c .refused .ensures)
+    (acked-7 full (given s) (s .pre) (a .node) (a .number) (slot-out (a .node) (i .result) (i .ensures) (c .before .if1 .taken)))
 
 mul-n : tie.Need-mul-n
 mul-n c = search needs
@@ -53,54 +51,46 @@ refused-requires-2 c κs = search needs
 
 returns-2 : tie.Need-returns-2
 returns-2 c =
-    let a = c .before .before .before .before .before .before .before .before .before .args in
-    let f = here (c .before .before .before .before .before) in
-    refusing full (given (c .before .before .before .before .before .before .before .before .before)) (c .before .before .before .before .before .before .before .before .before .pre) (acknowledge (a .node) (a .number)) 14 _ (c .refused2 .ensures)
-    (acked-14 full (given (c .before .before .before .before .before .before .before .before .before)) (c .before .before .before .before .before .before .before .before .before .pre) (a .node) (a .number) (c .before .before .before .before .before .before .node-slot .result) (f .is) (f .slot) (node (c .before .before .before .before .before)) (f .at) (c .before .if2 .taken))
+    let s = c .before .before .before .before .before .before .before .before in
+    let a = s .args in
+    let e = c .before .before .before .before in
+    let f = here e in
+    refusing full (given s) (s .pre) (acknowledge (a .node) (a .number)) 14 _ (c .refused2 .ensures)
+    (acked-14 full (given s) (s .pre) (a .node) (a .number) (e .before .node-slot .result) (f .is) (f .slot) (node e) (f .at) (c .before .if2 .taken))
 
 refused-requires-3 : tie.Need-refused-requires-3
 refused-requires-3 c κs = search needs
 
 returns-3 : tie.Need-returns-3
 returns-3 c =
-    let a = c .before .before .before .before .before .before .before .before .before .before .before .args in
-    let f = here (c .before .before .before .before .before .before .before) in
-    refusing full (given (c .before .before .before .before .before .before .before .before .before .before .before)) (c .before .before .before .before .before .before .before .before .before .before .before .pre) (acknowledge (a .node) (a .number)) 15 _ (c .refused3 .ensures)
-    (acked-15 full (given (c .before .before .before .before .before .before .before .before .before .before .before)) (c .before .before .before .before .before .before .before .before .before .before .before .pre) (a .node) (a .number) (c .before .before .before .before .before .before .before .before .node-slot .result) (f .is) (f .slot) (node (c .before .before .before .before .before .before .before)) (f .at) (omega arith) (c .before .if3 .taken))
+    let s = c .before .before .before .before .before .before .before .before .before .before in
+    let a = s .args in
+    let e = c .before .before .before .before .before .before in
+    let f = here e in
+    refusing full (given s) (s .pre) (acknowledge (a .node) (a .number)) 15 _ (c .refused3 .ensures)
+    (acked-15 full (given s) (s .pre) (a .node) (a .number) (e .before .node-slot .result) (f .is) (f .slot) (node e) (f .at) (omega arith) (c .before .if3 .taken))
 
-mul-t15 : tie.Need-mul-t15
-mul-t15 c = record { fits = omega (arith, oldest (c .before .before) .inside, parts full (given (c .before .before .before .before .before .before .before .before .before .before)) (c .before .before .before .before .before .before .before .before .before .before .pre) .store) }
+take-requires : tie.Need-take-requires
+take-requires c κs =
+    let s = c .before .before .before .before .before .before .before .before .before .before in
+    let a = s .args in
+    let e = c .before .before .before .before .before .before in
+    let f = here e in
+    (lists-sound full (given s) (s .pre) (a .node) (e .before .node-slot .result) (f .is) (f .slot) (node e) (f .at), omega arith, rw (f .at) (omega arith))
 
-shared-slice-read-t22 : tie.Need-shared-slice-read-t22
-shared-slice-read-t22 c = let h = oldest (c .before .before .before) in omega (arith, h .inside, h .least)
-
-cast-t23 : tie.Need-cast-t23
-cast-t23 c = record { fits = omega (arith, oldest (c .before .before .before) .most) }
-
-taken-requires : tie.Need-taken-requires
-taken-requires c κs =
-    let f = here (c .before .before .before .before .before .before .before) in (
-      omega arith,
-      oldest-counted full (given (c .before .before .before .before .before .before .before .before .before .before .before)) (c .before .before .before .before .before .before .before .before .before .before .before .pre) (c .before .before .before .before .before .before .before .before .before .before .before .args .node) (c .before .before .before .before .before .before .before .before .node-slot .result) (f .is) (f .slot) (node (c .before .before .before .before .before .before .before)) (f .at) (omega arith),
-      omega (arith, oldest (c .before .before .before) .inside, parts full (given (c .before .before .before .before .before .before .before .before .before .before .before)) (c .before .before .before .before .before .before .before .before .before .before .before .pre) .store),
-    )
-
-mul-m : tie.Need-mul-m
-mul-m c = search needs
-
-element-set-from-m : tie.Need-element-set-from-m
-element-set-from-m c = search needs
+same-length : tie.Need-same-length
+same-length c = search needs
 
 returns-4 : tie.Need-returns-4
 unfolding spoken
 returns-4 c =
-    let a = c .before .before .before .before .before .before .before .before .before .before .before .before .args in
-    let m : Machine = given (c .before .before .before .before .before .before .before .before .before .before .before .before) in
-    let f = here (c .before .before .before .before .before .before .before .before) in
-    subst (λ (y : Node). Does full (step full (meaning full m) (acknowledge (a .node) (a .number))) m (answered done)
-    (machine (withNodes (m .state) (set (m .state .nodes) (c .before .before .before .before .before .before .before .before .before .node-slot .result) y)) (m .store) (m .memory)))
-    (sym (c .taken .ensures)) (by-fit full m (c .before .before .before .before .before .before .before .before .before .before .before .before .pre) (acknowledge (a .node) (a .number)) _ _
-    (acked-0 full m (c .before .before .before .before .before .before .before .before .before .before .before .before .pre) (a .node) (a .number) (c .before .before .before .before .before .before .before .before .before .node-slot .result) (f .is) (f .slot) (node (c .before .before .before .before .before .before .before .before)) (f .at) (omega arith) (c .before .before .if3 .left)))
+    let s = c .before .before .before .before .before .before .before .before .before .before .before .before .before in
+    let a = s .args in
+    let e = c .before .before .before .before .before .before .before .before .before in
+    let f = here e in
+    by-fit full (given s) (s .pre) (acknowledge (a .node) (a .number)) _ _
+    (acked-0 full (given s) (s .pre) (a .node) (a .number) (e .before .node-slot .result) (f .is) (f .slot) (node e) (f .at) (omega arith) (c .before .before .before .before .if3 .left) _ _
+    (c .before .before .take .ensures))
 
 pub acknowledge-spec : {M : Type 1} → statement M
 acknowledge-spec =
@@ -115,10 +105,6 @@ acknowledge-spec =
     returns-2
     refused-requires-3
     returns-3
-    mul-t15
-    shared-slice-read-t22
-    cast-t23
-    taken-requires
-    mul-m
-    element-set-from-m
+    take-requires
+    same-length
     returns-4)

@@ -3,25 +3,24 @@ use native.Mathlib.Omega.{arith}
 use Prim.Native.Nat.{ℕ, _+_, _-_}
 use mathlib.Core.Path.{_≡_, ap, _∙_}
 use lib.ListN.{take, drop, getD}
-use Rattle.state.specs.Machine.{answerAt}
-use Rattle.store.specs.Layout.{putIn}
+use Rattle.moves.specs.Moved.{putIn}
 use Rattle.handover.proofs.copy_answer.Statement.{statement}
 use Rattle.handover.proofs.copy_answer.Tie as tie
 
-mul-copy-in : tie.Need-mul-copy-in
-mul-copy-in c = search needs
+mul-end : tie.Need-mul-end
+mul-end c = search needs
 
-shared-slice-read-copy-in : tie.Need-shared-slice-read-copy-in
-shared-slice-read-copy-in c = search needs
+shared-slice-read-end : tie.Need-shared-slice-read-end
+shared-slice-read-end c = search needs
 
-cast-copy-in : tie.Need-cast-copy-in
-cast-copy-in c = search needs
+cast-end : tie.Need-cast-end
+cast-end c = search needs
 
 add-end : tie.Need-add-end
 add-end c = search needs
 
-mul-copy-in-2 : tie.Need-mul-copy-in-2
-mul-copy-in-2 c = search needs
+mul-copy-in : tie.Need-mul-copy-in
+mul-copy-in c = search needs
 
 sub-copy-in : tie.Need-sub-copy-in
 sub-copy-in c = search needs
@@ -39,9 +38,8 @@ same-length : tie.Need-same-length
 same-length c = search needs
 
 returns : tie.Need-returns
-unfolding answerAt
 returns c =
-    let a = c .before .before .before .before .before .before .before .before .before .args in
+    let a = c .before .before .before .before .before .before .before .before .args in
     let n = getD (a .store .now) (a .place) 0 in
     let e : a .place + n - a .place ≡ n = omega arith in
     c .before .before .copy-in .ensures ∙ ap (λ (k : ℕ). putIn (a .out .now) (a .to) (take k (drop (a .place) (a .store .now)))) e
@@ -50,11 +48,11 @@ pub copy-answer-spec : {M : Type 1} → statement M
 copy-answer-spec =
     tie.close
     (tie.spec
-    mul-copy-in
-    shared-slice-read-copy-in
-    cast-copy-in
+    mul-end
+    shared-slice-read-end
+    cast-end
     add-end
-    mul-copy-in-2
+    mul-copy-in
     sub-copy-in
     part-copy-in-start
     part-copy-in-end

@@ -36,6 +36,9 @@ returns c =
     (arrived-7 full m (a .node) (c .before .before .before .before .before .before .before .pre) (now (a .id)) (now (a .bytes))
     (slot-out (a .node) _ (c .before .before .reader-slot .ensures) (c .before .if1 .taken))))
 
+cast-if2 : tie.Need-cast-if2
+cast-if2 c = search needs
+
 refused-requires-2 : tie.Need-refused-requires-2
 refused-requires-2 c κs = search needs
 
@@ -72,6 +75,9 @@ returns-3 c =
     (now (a .bytes)) (p .0)
     (c .before .before .if2 .left) (no-and _ (lt-leb _ _ (c .before .if3 .taken)))))
 
+cast-if4 : tie.Need-cast-if4
+cast-if4 c = search needs
+
 refused-requires-4 : tie.Need-refused-requires-4
 refused-requires-4 c κs = search needs
 
@@ -100,8 +106,14 @@ element-copy-out-x c = search needs
 eight-requires : tie.Need-eight-requires
 eight-requires c κs = search needs
 
+cast-t24 : tie.Need-cast-t24
+cast-t24 c = search needs
+
 arrived-requires : tie.Need-arrived-requires
 arrived-requires c κs = search needs
+
+cast-copy-bytes : tie.Need-cast-copy-bytes
+cast-copy-bytes c = search needs
 
 mul-copy-bytes : tie.Need-mul-copy-bytes
 mul-copy-bytes c = search needs
@@ -178,16 +190,20 @@ arrive-spec =
     reader-slot-requires
     refused-requires
     returns
+    cast-if2
     refused-requires-2
     returns-2
     refused-requires-3
     returns-3
+    cast-if4
     refused-requires-4
     returns-4
     mul-x
     element-copy-out-x
     eight-requires
+    cast-t24
     arrived-requires
+    cast-copy-bytes
     mul-copy-bytes
     copy-bytes-requires
     mul-y

@@ -19,6 +19,9 @@ abbrev μ-loop : tie.MeasureT-loop
 loop-holds : tie.Need-loop-holds Inv-loop μ-loop
 loop-holds c = search needs
 
+cast-if1 : tie.Need-cast-if1 Inv-loop μ-loop
+cast-if1 c = search needs
+
 shared-slice-read-a : tie.Need-shared-slice-read-a Inv-loop μ-loop
 shared-slice-read-a c = search needs
 
@@ -56,6 +59,7 @@ eight-spec =
     Inv-loop
     μ-loop
     loop-holds
+    cast-if1
     shared-slice-read-a
     array-write-a
     add-j

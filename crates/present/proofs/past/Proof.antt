@@ -9,6 +9,9 @@ cast-result c = search needs
 cast-result-2 : tie.Need-cast-result-2
 cast-result-2 c = search needs
 
+cast-result-3 : tie.Need-cast-result-3
+cast-result-3 c = search needs
+
 add-result : tie.Need-add-result
 add-result c = search needs
 
@@ -16,4 +19,4 @@ returns : tie.Need-returns
 returns c = refl
 
 pub past-spec : {M : Type 1} → statement M
-past-spec = tie.close (tie.spec cast-result cast-result-2 add-result returns)
+past-spec = tie.close (tie.spec cast-result cast-result-2 cast-result-3 add-result returns)

@@ -29,11 +29,14 @@ returns c =
     called (c .refused .ensures) (read-over (is-past (c .before .before .past .ensures) (c .before .if1 .taken))
     (c .before .before .before .before .before .before .before .before .pre))
 
+cast-from : tie.Need-cast-from
+cast-from c = search needs
+
 mul-from : tie.Need-mul-from
 mul-from c = let i = index (c .before .before .before .before .before .before .before .before .pre .orderly) in search needs
 
-cast-from : tie.Need-cast-from
-cast-from c = search needs
+cast-from-2 : tie.Need-cast-from-2
+cast-from-2 c = search needs
 
 add-from : tie.Need-add-from
 add-from c = search needs
@@ -96,8 +99,9 @@ read-spec =
     past-requires
     refused-requires
     returns
-    mul-from
     cast-from
+    mul-from
+    cast-from-2
     add-from
     cast-to
     add-to

@@ -62,9 +62,6 @@ returns-3 c =
     (not-false _ (c .before .before .before .before .before .before .before .if1 .left))
     (omega (arith, c .before .before .before .before .before .if2 .left)) (sym (c .before .before .repeated .ensures) ∙ c .before .if3 .taken))
 
-cast-if4 : tie.Need-cast-if4
-cast-if4 c = search needs
-
 add-if4 : tie.Need-add-if4
 add-if4 c =
     let a = c .before .before .before .before .before .before .before .before .before .before .before .before .before .args in
@@ -117,7 +114,6 @@ look-spec =
     repeated-requires
     quiet-requires-3
     returns-3
-    cast-if4
     add-if4
     refused-requires
     returns-4

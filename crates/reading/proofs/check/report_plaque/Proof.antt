@@ -28,14 +28,20 @@ element-copy-out-x c =
     (busy m (a .i) (a .node) (a .t) (a .clock) p) in
     omega arith
 
-mul-from : tie.Need-mul-from
-mul-from c = search needs
-
 cast-from : tie.Need-cast-from
 cast-from c = search needs
 
+mul-from : tie.Need-mul-from
+mul-from c = search needs
+
+cast-from-2 : tie.Need-cast-from-2
+cast-from-2 c = search needs
+
 add-from : tie.Need-add-from
 add-from c = search needs
+
+cast-to : tie.Need-cast-to
+cast-to c = search needs
 
 add-to : tie.Need-add-to
 add-to c =
@@ -158,9 +164,11 @@ report-plaque-spec =
     (tie.spec
     mul-x
     element-copy-out-x
-    mul-from
     cast-from
+    mul-from
+    cast-from-2
     add-from
+    cast-to
     add-to
     mul-n
     element-copy-out-n
