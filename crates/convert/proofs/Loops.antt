@@ -1,0 +1,113 @@
+-- One turn more of the converters' loops.
+-- Assumes nothing.
+use Prim.Native.Nat.{ℕ, zero, suc, _+_, _-_, _≤_, _<_}
+use mathlib.Core.Path.{_≡_, refl, sym, ap, _∙_}
+use mathlib.Core.List.{List, [], _∷_, _++_, map, append-assoc, append-nil}
+use native.Mathlib.Nat.{add-zero, zero-add, add-assoc}
+use native.Mathlib.Numerals.{add-one}
+use native.Mathlib.Omega.{arith}
+use lib.ListN.{length, take, drop, getD, set, length-append, length-take, length-drop, take-append-drop, replicate, length-replicate}
+use lib.ListN.{replicate-append-replicate}
+use lib.Seq.{take-suc, take-at, drop-at, take-suc-set, drop-length, drop-drop, drop-append-add}
+use Rattle.units.specs.declared.Words.{Words}
+use Rattle.state.specs.Consistent.{counts}
+use Rattle.state.specs.declared.node.Node.{Node}
+use Rattle.state.proofs.Lists.{map-append}
+use Rattle.lists.specs.Room.{sum, placeOf}
+use Rattle.moves.specs.Moved.{putIn}
+use Rattle.placed.specs.Walked.{wordsOf}
+use Rattle.placed.specs.declared.Node as O
+use Rattle.convert.specs.Convert.{heldBy, runsOf, newStore, oldNodes}
+
+-- ---- words copied in
+pub put-more : (d : List ℕ) (to : ℕ) (j a : List ℕ) (n : ℕ) → to + length j ≡ n → n + length a ≤ length d
+    → putIn (putIn d to j) n a ≡ putIn d to (j ++ a)
+unfolding putIn
+put-more d to j a n e h =
+    let p : List ℕ = take to d ++ j in
+    let r : List ℕ = drop n d in
+    let l : length p ≡ n = simp (length-append, length-take) (omega arith) in
+    let s : take to d ++ (j ++ drop (to + length j) d) ≡ p ++ r = rw (e, ← append-assoc) in
+    let t : take n (p ++ r) ≡ p = take-at p r n l in
+    let w : drop (length p + length a) (p ++ r) ≡ drop (length a) r = drop-append-add p r (length a) in
+    let u : drop (n + length a) (p ++ r) ≡ drop (n + length a) d = rw l at w ∙ drop-drop (length a) n d in
+    let v : to + length (j ++ a) ≡ n + length a = rw length-append (omega arith) in
+    rw (s, t, u, v) (simp append-assoc)
+
+put-whole : (d s : List ℕ) → length d ≡ length s → putIn d 0 s ≡ s
+unfolding putIn
+put-whole d s e = rw (zero-add, ← e, drop-length, append-nil)
+
+-- copied to the front of zeros, and all of it back
+pub new-is : (s : List ℕ) (ns : List O.Node) → length (runsOf s ns) ≤ length s
+    → putIn s 0 (putIn (replicate (length s) 0) 0 (runsOf s ns)) ≡ newStore s ns
+unfolding putIn newStore
+new-is s ns h =
+    let r : List ℕ = runsOf s ns in
+    let k : ℕ = length s - length r in
+    let l : length r + k ≡ length s = omega arith in
+    let z : replicate {A = ℕ} (length s) 0 ≡ replicate (length r) 0 ++ replicate k 0 = rw (replicate-append-replicate, l) in
+    let d : drop (0 + length r) (replicate {A = ℕ} (length s) 0) ≡ replicate k 0 =
+    rw (zero-add, z) (drop-at (replicate (length r) 0) (replicate k 0) (length r) (length-replicate (length r) 0)) in
+    let m : length s ≡ length (r ++ replicate {A = ℕ} k 0) = simp (length-append, length-replicate) (sym l) in
+    ap (λ (v : List ℕ). putIn s 0 (r ++ v)) d ∙ put-whole s (r ++ replicate k 0) m
+
+-- ---- the words of all lists: one node more
+abbrev pub run : List ℕ → O.Node → List ℕ
+run store n = take (n .list .words .0) (drop (n .list .place) store)
+
+pub length-run : (store : List ℕ) (n : O.Node) → n .list .place + n .list .words .0 ≤ length store → length (run store n) ≡ n .list .words .0
+length-run store n h = simp (length-take, length-drop) (omega arith)
+
+runs-append : (store : List ℕ) (xs ys : List O.Node) → runsOf store (xs ++ ys) ≡ runsOf store xs ++ runsOf store ys
+unfolding runsOf
+runs-append store [] ys = refl
+runs-append store (x ∷ xs) ys = rw (runs-append store xs ys, append-assoc)
+
+pub runs-more : (store : List ℕ) (d : O.Node) (ns : List O.Node) (k : ℕ) → k < length ns
+    → runsOf store (take (k + 1) ns) ≡ runsOf store (take k ns) ++ run store (getD ns k d)
+unfolding runsOf
+runs-more store d ns k h = rw (add-one, take-suc ns k d h, runs-append, append-nil)
+
+pub runs-fewer : (store : List ℕ) (ns : List O.Node) (k : ℕ) → length (runsOf store (take k ns)) ≤ length (runsOf store ns)
+runs-fewer store ns k =
+    let e : runsOf store (take k ns) ++ runsOf store (drop k ns) ≡ runsOf store ns =
+    sym (runs-append store (take k ns) (drop k ns)) ∙ ap (runsOf store) (take-append-drop k ns) in
+    omega (arith, simp length-append at (ap length e))
+
+-- ---- an array that a loop fills: one element more
+pub map-filled : {A B : Type 0} (f : A → B) (ns : List A) (out : List B) (k : ℕ) (d : A) (m : B) → k < length ns → k < length out
+    → take k out ≡ map f (take k ns) → m ≡ f (getD ns k d) → take (k + 1) (set out k m) ≡ map f (take (k + 1) ns)
+map-filled f ns out k d m h l e g = rw (add-one, take-suc-set out k m l, take-suc ns k d h, map-append, e, g)
+
+old-append : (to : ℕ) (xs ys : List Node) (gs hs : List Words) → length xs ≡ length gs
+    → oldNodes to (xs ++ ys) (gs ++ hs) ≡ oldNodes to xs gs ++ oldNodes (to + sum (counts gs)) ys hs
+unfolding oldNodes sum
+old-append to [] ys [] hs l = rw add-zero
+old-append to [] ys (g ∷ gs) hs l = absurd (omega arith)
+old-append to (x ∷ xs) ys [] hs l = absurd (omega arith)
+old-append to (x ∷ xs) ys (g ∷ gs) hs l = rw (old-append (to + g .0) xs ys gs hs (omega arith), add-assoc)
+
+counts-taken : (hs : List Words) (k : ℕ) → counts (take k hs) ≡ take k (counts hs)
+counts-taken [] zero = refl
+counts-taken [] (suc k) = refl
+counts-taken (h ∷ hs) zero = refl
+counts-taken (h ∷ hs) (suc k) = ap (λ (l : List ℕ). h .0 ∷ l) (counts-taken hs k)
+
+pub old-filled : (ns : List Node) (hs : List Words) (out : List O.Node) (k to : ℕ) (d : Node) (e : Words) (m : O.Node) → k < length ns
+    → length hs ≡ length ns → k < length out → to ≡ placeOf (counts hs) k → take k out ≡ oldNodes 0 (take k ns) (take k hs)
+    → m ∷ [] ≡ oldNodes to (getD ns k d ∷ []) (getD hs k e ∷ []) → take (k + 1) (set out k m) ≡ oldNodes 0 (take (k + 1) ns) (take (k + 1) hs)
+old-filled ns hs out k to d e m h z l t f g =
+    let s : to ≡ 0 + sum (counts (take k hs)) = rw (zero-add, counts-taken) t in
+    let y : length (take k ns) ≡ length (take k hs) = simp length-take (omega arith) in
+    rw (add-one, take-suc-set out k m l, take-suc ns k d h, take-suc hs k e (omega arith), old-append 0 (take k ns) _ (take k hs) _ y, f, g, s)
+
+-- the words that the nodes hold, as numbers and as they stand
+pub helds-are : (hs : List Words) (ns : List O.Node) → counts hs ≡ wordsOf ns → hs ≡ map heldBy ns
+helds-are [] [] e = refl
+helds-are [] (n ∷ ns) e = absurd (let z : _≡_ {A = ℕ} 0 1 = cc in omega arith)
+helds-are (h ∷ hs) [] e = absurd (let z : _≡_ {A = ℕ} 0 1 = cc in omega arith)
+helds-are (h ∷ hs) (n ∷ ns) e =
+    let p : h .0 ≡ n .list .words .0 = cc in
+    let q : counts hs ≡ wordsOf ns = cc in
+    ap (λ (k : ℕ). record { 0 = k } ∷ hs) p ∙ ap (λ (l : List Words). heldBy n ∷ l) (helds-are hs ns q)

@@ -1,0 +1,147 @@
+use borrow.Author.Needs.{needs}
+use native.Mathlib.Omega.{arith}
+use Prim.Native.Nat.{ℕ, _+_, _-_, _≤_}
+use mathlib.Core.Path.{_≡_, refl, sym, ap, _∙_}
+use mathlib.Core.List.{List, _++_}
+use lib.ListN.{length, take, drop, getD, length-append}
+use lib.Seq.{take-all}
+use Rattle.placed.proofs.InOrder.{blank, node-any}
+use Rattle.state.proofs.Lists.{length-mapped}
+use Rattle.moves.specs.Moved.{putIn}
+use Rattle.moves.proofs.Moves.{length-put, put-none}
+use Rattle.convert.specs.Convert.{runsOf}
+use Rattle.convert.proofs.Loops.{run, put-more, length-run, runs-more, runs-fewer}
+use Rattle.convert.proofs.lay.Statement.{statement}
+use Rattle.convert.proofs.lay.Tie as tie
+
+abbrev Inv-loop : tie.InvT-loop
+Inv-loop store out₀ nodes to₀ k₀ out to k =
+    (k ≤ 17) × (length out ≡ length out₀) × (to ≡ length (runsOf store (take k nodes))) × (out ≡ putIn out₀ 0 (runsOf store (take k nodes)))
+
+abbrev μ-loop : tie.MeasureT-loop
+μ-loop store out₀ nodes to₀ k₀ out to k = 17 - k
+
+nodes17 : (c : tie.Start Inv-loop μ-loop) → length (c .args .t1) ≡ 17
+nodes17 c = search (needs, length-mapped)
+
+-- the list that the loop is at lies inside the store, and its words have room behind those laid
+turn : (c : tie.In-loop Inv-loop μ-loop)
+    → (let a = c .before .before .before .before .args in
+    let l = c .before .loop in
+    let n = getD (a .t1) (l .k) blank in
+    (n .list .place + n .list .words .0 ≤ length (a .store .now))
+    × (runsOf (a .store .now) (take (l .k + 1) (a .t1)) ≡ runsOf (a .store .now) (take (l .k) (a .t1)) ++ run (a .store .now) n)
+    × (length (run (a .store .now) n) ≡ n .list .words .0)
+    × (l .to + n .list .words .0 ≡ length (runsOf (a .store .now) (take (l .k + 1) (a .t1))))
+    × (l .to + n .list .words .0 ≤ length (a .out .now)))
+turn c =
+    let s = c .before .before .before .before in
+    let a = s .args in
+    let k = c .before .loop .k in
+    let h = nodes17 s in
+    let st = a .store .now in
+    let n = getD (a .t1) k blank in
+    let i : n .list .place + n .list .words .0 ≤ length st = rw (node-any (a .t1) k (omega arith)) (s .pre .0 k (omega arith)) in
+    let m = runs-more st blank (a .t1) k (omega arith) in
+    let r = length-run st n i in
+    let g = ap length m ∙ length-append (runsOf st (take k (a .t1))) (run st n) in
+    let t : c .before .loop .to + n .list .words .0 ≡ length (runsOf st (take (k + 1) (a .t1))) = omega (arith, c .before .loop .inv .2) in
+    (i, m, r, t, omega (arith, runs-fewer st (a .t1) (k + 1), s .pre .1))
+
+loop-holds : tie.Need-loop-holds Inv-loop μ-loop
+unfolding runsOf
+loop-holds c = (omega arith, refl, refl, put-none _ _)
+
+mul-n : tie.Need-mul-n Inv-loop μ-loop
+mul-n c = search needs
+
+array-copy-out-n : tie.Need-array-copy-out-n Inv-loop μ-loop
+array-copy-out-n c = search needs
+
+cast-end : tie.Need-cast-end Inv-loop μ-loop
+cast-end c = search needs
+
+add-end : tie.Need-add-end Inv-loop μ-loop
+add-end c = record { fits = omega (arith, turn (c .before .before .before) .0) }
+
+mul-copy-in : tie.Need-mul-copy-in Inv-loop μ-loop
+mul-copy-in c = record { fits = omega (arith, turn (c .before .before .before) .0) }
+
+sub-copy-in : tie.Need-sub-copy-in Inv-loop μ-loop
+sub-copy-in c = search needs
+
+part-copy-in-start : tie.Need-part-copy-in-start Inv-loop μ-loop
+part-copy-in-start c = search needs
+
+part-copy-in-end : tie.Need-part-copy-in-end Inv-loop μ-loop
+part-copy-in-end c = omega (arith, turn (c .before .before .before) .0)
+
+copy-in-requires : tie.Need-copy-in-requires Inv-loop μ-loop
+copy-in-requires c κs =
+    let n = getD (c .before .before .before .before .before .before .before .before .before .args .t1) (c .before .before .before .before .before .before .loop .k) blank in
+    let d : (n .list .place + n .list .words .0) - n .list .place ≡ n .list .words .0 = omega arith in
+    let t = turn (c .before .before .before .before .before) in
+    rw (d, t .2) (omega (arith, t .4, c .before .before .before .before .before .before .loop .inv .1))
+
+cast-to : tie.Need-cast-to Inv-loop μ-loop
+cast-to c = search needs
+
+add-to : tie.Need-add-to Inv-loop μ-loop
+add-to c = record { fits = omega (arith, turn (c .before .before .before .before .before .before .before .before .before) .4) }
+
+add-k : tie.Need-add-k Inv-loop μ-loop
+add-k c = search needs
+
+loop-less : tie.Need-loop-less Inv-loop μ-loop
+loop-less c = search needs
+
+loop-again : tie.Need-loop-again Inv-loop μ-loop
+loop-again c =
+    let a = c .before .before .before .before .before .before .before .before .before .before .before .before .before .args in
+    let st = a .store .now in
+    let l = c .before .before .before .before .before .before .before .before .before .before .loop in
+    let n = getD (a .t1) (l .k) blank in
+    let t = turn (c .before .before .before .before .before .before .before .before .before) in
+    let d : (n .list .place + n .list .words .0) - n .list .place ≡ n .list .words .0 = omega arith in
+    let e = c .before .before .before .copy-in .ensures ∙ ap (λ (k : ℕ). putIn (l .out) (l .to) (take k (drop (n .list .place) st))) d in
+    let runs = runsOf st (take (l .k) (a .t1)) in (
+      omega arith,
+      ap length e ∙ length-put (l .out) (l .to) (run st n) (omega (arith, t .2, t .4, l .inv .1)) ∙ l .inv .1,
+      t .3,
+      e ∙ ap (λ (o : List ℕ). putIn o (l .to) (run st n)) (l .inv .3)
+          ∙ put-more (a .out .now) 0 runs (run st n) (l .to) (omega (arith, l .inv .2)) (omega (arith, t .2, t .4))
+          ∙ ap (putIn (a .out .now) 0) (sym (t .1)),
+    )
+
+same-length : tie.Need-same-length Inv-loop μ-loop
+same-length c = search needs
+
+returns : tie.Need-returns Inv-loop μ-loop
+returns c =
+    let ns = c .before .before .before .before .args .t1 in
+    let n = nodes17 (c .before .before .before .before) in
+    rw (take-all (c .before .loop .k) ns (omega arith)) at (c .before .loop .inv .3)
+
+pub lay-spec : {M : Type 1} → statement M
+lay-spec =
+    tie.close
+    (tie.spec
+    Inv-loop
+    μ-loop
+    loop-holds
+    mul-n
+    array-copy-out-n
+    cast-end
+    add-end
+    mul-copy-in
+    sub-copy-in
+    part-copy-in-start
+    part-copy-in-end
+    copy-in-requires
+    cast-to
+    add-to
+    add-k
+    loop-less
+    loop-again
+    same-length
+    returns)

@@ -1,0 +1,87 @@
+use borrow.Author.Needs.{needs}
+use native.Mathlib.Omega.{arith}
+use Prim.Native.Nat.{_-_, _≤_}
+use mathlib.Core.Path.{_≡_, refl, sym, ap, _∙_}
+use mathlib.Core.List.{map}
+use lib.ListN.{length, take, length-set}
+use lib.Seq.{take-all}
+use Rattle.placed.proofs.InOrder.{blank, node-any}
+use Rattle.state.proofs.Lists.{length-mapped}
+use Rattle.convert.specs.Convert.{newNode}
+use Rattle.convert.proofs.Loops.{map-filled}
+use Rattle.convert.proofs.without_places.Statement.{statement}
+use Rattle.convert.proofs.without_places.Tie as tie
+
+abbrev Inv-loop : tie.InvT-loop
+Inv-loop nodes ns₀ k₀ ns k = (k ≤ 17) × (length ns ≡ 17) × (take k ns ≡ map newNode (take k nodes))
+
+abbrev μ-loop : tie.MeasureT-loop
+μ-loop nodes ns₀ k₀ ns k = 17 - k
+
+nodes17 : (c : tie.Start Inv-loop μ-loop) → length (c .args .t1) ≡ 17
+nodes17 c = search (needs, length-mapped)
+
+silent-requires : tie.Need-silent-requires Inv-loop μ-loop
+silent-requires c κs = search needs
+
+loop-holds : tie.Need-loop-holds Inv-loop μ-loop
+loop-holds c = (omega arith, ap length (c .silent .ensures), refl)
+
+mul-n : tie.Need-mul-n Inv-loop μ-loop
+mul-n c = search needs
+
+array-copy-out-n : tie.Need-array-copy-out-n Inv-loop μ-loop
+array-copy-out-n c = search needs
+
+cast-t14 : tie.Need-cast-t14 Inv-loop μ-loop
+cast-t14 c =
+    let s = c .before .before .before .before .before .before in
+    let k = c .before .before .before .before .loop .k in
+    let n = nodes17 s in
+    let e = node-any (s .args .t1) k (omega arith) in
+    record { fits = rw e (omega (arith, s .pre k (omega arith))) }
+
+mul-ns : tie.Need-mul-ns Inv-loop μ-loop
+mul-ns c = search needs
+
+array-set-from-ns : tie.Need-array-set-from-ns Inv-loop μ-loop
+array-set-from-ns c = search needs
+
+add-k : tie.Need-add-k Inv-loop μ-loop
+add-k c = search needs
+
+loop-less : tie.Need-loop-less Inv-loop μ-loop
+loop-less c = search needs
+
+loop-again : tie.Need-loop-again Inv-loop μ-loop
+loop-again c =
+    let l = c .before .before .before .before .loop in
+    let ns = c .before .before .before .before .before .before .args .t1 in
+    let n = nodes17 (c .before .before .before .before .before .before) in
+    let e = l .inv .1 in
+    (omega arith, simp length-set e, map-filled newNode ns (l .ns) (l .k) blank _ (omega arith) (omega arith) (l .inv .2) refl)
+
+returns : tie.Need-returns Inv-loop μ-loop
+returns c =
+    let l = c .before .loop in
+    let ns = c .before .before .before .args .t1 in
+    let n = nodes17 (c .before .before .before) in
+    sym (take-all (l .k) (l .ns) (omega (arith, l .inv .1))) ∙ l .inv .2 ∙ ap (map newNode) (take-all (l .k) ns (omega arith))
+
+pub without-places-spec : {M : Type 1} → statement M
+without-places-spec =
+    tie.close
+    (tie.spec
+    Inv-loop
+    μ-loop
+    silent-requires
+    loop-holds
+    mul-n
+    array-copy-out-n
+    cast-t14
+    mul-ns
+    array-set-from-ns
+    add-k
+    loop-less
+    loop-again
+    returns)

@@ -1,0 +1,94 @@
+-- The words of all lists are counted exactly if those from node i on are.
+-- Assumes nothing.
+use Prim.Native.Nat.{_-_, _≤_}
+use mathlib.Core.Path.{_≡_, sym, ap, subst, _∙_}
+use native.Mathlib.Omega.{arith}
+use lib.ListN.{length, drop, getD}
+use borrow.Author.Needs.{needs}
+use borrow.Author.Tests.{not-true, not-false}
+use Rattle.units.specs.Count.{every}
+use Rattle.units.proofs.Choice.{yes-and, no-and}
+use Rattle.meaning.specs.Bench.{full}
+use Rattle.placed.specs.Consistent.{counted}
+use Rattle.placed.specs.State.{freshNode}
+use Rattle.placed.specs.declared.Node.{Node}
+use Rattle.placed.proofs.InOrder.{node-any, fine-ok}
+use Rattle.state.proofs.Lists.{length-mapped, every-at, every-end}
+use Rattle.placed.specs.Walked.{InStore}
+use Rattle.placed.proofs.fine.all_counted.Statement.{statement}
+use Rattle.placed.proofs.fine.all_counted.Tie as tie
+
+abbrev Inv-loop : tie.InvT-loop
+Inv-loop store nodes i₀ i = (i ≤ 17) × (every (counted store) nodes ≡ every (counted store) (drop i nodes))
+
+abbrev μ-loop : tie.MeasureT-loop
+μ-loop store nodes i₀ i = 17 - i
+
+nodes17 : (c : tie.Start Inv-loop μ-loop) → length (c .args .t1) ≡ 17
+nodes17 c = search (needs, length-mapped)
+
+-- what the call says of the node at i
+here : (c : tie.After-is-counted Inv-loop μ-loop)
+    → counted (c .before .before .before .before .before .before .args .store .now) (getD (c .before .before .before .before .before .before .args .t1) (c .before .before .before .before .loop .i) freshNode) ≡ c .is-counted .result
+unfolding counted
+here c =
+    let n = nodes17 (c .before .before .before .before .before .before) in
+    ap (counted (c .before .before .before .before .before .before .args .store .now)) (sym (node-any (c .before .before .before .before .before .before .args .t1) (c .before .before .before .before .loop .i) (omega arith))) ∙ sym (c .is-counted .ensures)
+
+loop-holds : tie.Need-loop-holds Inv-loop μ-loop
+loop-holds c = search needs
+
+mul-n : tie.Need-mul-n Inv-loop μ-loop
+mul-n c = search needs
+
+array-copy-out-n : tie.Need-array-copy-out-n Inv-loop μ-loop
+array-copy-out-n c = search needs
+
+is-counted-requires : tie.Need-is-counted-requires Inv-loop μ-loop
+is-counted-requires c κs =
+    let a = c .before .before .before .before .before .args in
+    let n = nodes17 (c .before .before .before .before .before) in
+    let i = c .before .before .before .loop .i in (
+      subst (λ (x : Node). InStore full (a .store .now) i (x .list)) (sym (node-any (a .t1) i (omega arith)))
+          (fine-ok full (a .store .now) (a .t1) (c .before .before .before .before .before .pre .1) i (omega arith)),
+      c .before .before .before .before .before .pre .0,
+    )
+
+returns : tie.Need-returns Inv-loop μ-loop
+returns c =
+    let n = nodes17 (c .before .before .before .before .before .before .before) in
+    let l = c .before .before .before .before .before .loop in
+    sym (l .inv .1 ∙ every-at (counted (c .before .before .before .before .before .before .before .args .store .now)) _ (l .i) freshNode (omega arith) ∙ no-and _ (here (c .before) ∙ not-true _ (c .if1 .taken)))
+
+add-i : tie.Need-add-i Inv-loop μ-loop
+add-i c = search needs
+
+loop-less : tie.Need-loop-less Inv-loop μ-loop
+loop-less c = search needs
+
+loop-again : tie.Need-loop-again Inv-loop μ-loop
+loop-again c =
+    let n = nodes17 (c .before .before .before .before .before .before .before) in
+    let l = c .before .before .before .before .before .loop in
+    (omega arith, l .inv .1 ∙ every-at (counted (c .before .before .before .before .before .before .before .args .store .now)) _ (l .i) freshNode (omega arith) ∙ yes-and (here (c .before) ∙ not-false _ (c .if1 .left)))
+
+returns-2 : tie.Need-returns-2 Inv-loop μ-loop
+returns-2 c =
+    let n = nodes17 (c .before .before .before) in
+    sym (c .before .loop .inv .1 ∙ every-end (counted (c .before .before .before .args .store .now)) _ (c .before .loop .i) (omega arith))
+
+pub all-counted-spec : {M : Type 1} → statement M
+all-counted-spec =
+    tie.close
+    (tie.spec
+    Inv-loop
+    μ-loop
+    loop-holds
+    mul-n
+    array-copy-out-n
+    is-counted-requires
+    returns
+    add-i
+    loop-less
+    loop-again
+    returns-2)

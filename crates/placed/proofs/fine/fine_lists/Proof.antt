@@ -1,0 +1,170 @@
+-- A walk over the pending answers (`Walk`): the marks are those of the answers passed, and the lists are fine exactly if the rest is.
+-- Each way on, and each way out, is one law of the walk. No more answers are passed than words.
+-- Assumes nothing.
+use Prim.Native.Nat.{ℕ, _+_, _-_, _≤_}
+use mathlib.Core.Path.{_≡_, refl, sym, ap, _∙_}
+use mathlib.Core.Logic.{⊎-elim}
+use mathlib.Core.Bool.{true, false}
+use mathlib.Core.List.{List}
+use native.Mathlib.Numerals.{add-one}
+use native.Mathlib.Omega.{arith}
+use lib.ListN.{length, getD, length-replicate, getD-replicate}
+use borrow.Author.Needs.{needs}
+use borrow.Author.Tests.{not-true, not-false}
+use Rattle.meaning.specs.Bench.{full}
+use Rattle.placed.specs.Consistent.{okAnswer}
+use Rattle.placed.specs.declared.Node.{Node}
+use Rattle.placed.proofs.Formed.{lies, ok-front}
+use Rattle.placed.proofs.InOrder.{node-any}
+use Rattle.state.proofs.Lists.{length-mapped}
+use Rattle.placed.proofs.Marks.{apart, Walk, nodesLeft, left, walk-start, walk-in, walk-bad, walk-taken, walk-next, walk-end, walk-at, walk-out}
+use Rattle.placed.proofs.fine.fine_lists.Statement.{statement}
+use Rattle.placed.proofs.fine.fine_lists.Tie as tie
+
+abbrev Inv-loop : tie.InvT-loop
+Inv-loop store nodes used₀ fine₀ i count place₀ k₀ used fine place k =
+    (k ≤ count) × (k ≤ place) × (fine ≡ true) × Walk full 4096 store nodes used (left store nodes i (count - k) place)
+
+abbrev μ-loop : tie.MeasureT-loop
+μ-loop store nodes used₀ fine₀ i count place₀ k₀ used fine place k = count - k
+
+abbrev Inv-nodes : tie.InvT-nodes
+Inv-nodes store nodes used₀ fine₀ i₀ used fine i = (i ≤ 17) × (fine ≡ true) × Walk full 4096 store nodes used (nodesLeft store nodes i)
+
+abbrev μ-nodes : tie.MeasureT-nodes
+μ-nodes store nodes used₀ fine₀ i₀ used fine i = 17 - i
+
+nodes17 : (c : tie.Start Inv-loop μ-loop Inv-nodes μ-nodes) → length (c .args .t1) ≡ 17
+nodes17 c = search (needs, length-mapped)
+
+-- in the inner loop: the words of the store, the node's index, and the place of the answer
+abbrev words : tie.In-loop Inv-loop μ-loop Inv-nodes μ-nodes → List ℕ
+words c = c .before .before .before .before .before .before .before .args .store .now
+
+abbrev index : tie.In-loop Inv-loop μ-loop Inv-nodes μ-nodes → ℕ
+index c = c .before .before .before .before .before .nodes .i
+
+abbrev spot : tie.In-loop Inv-loop μ-loop Inv-nodes μ-nodes → ℕ
+spot c = c .before .loop .place
+
+-- past the first test: the answer is in order ..
+in-order : (c : tie.Else1 Inv-loop μ-loop Inv-nodes μ-nodes)
+    → let d = c .before .before in okAnswer full (words d) (index d) (spot d) ≡ true
+in-order c = ok-front _ _ _ _ ∙ sym (c .before .answer-ok .ensures) ∙ not-false _ (c .if1 .left)
+
+-- .. and lies inside the store
+inside : (c : tie.Else1 Inv-loop μ-loop Inv-nodes μ-nodes)
+    → let d = c .before .before in spot d + getD (words d) (spot d) 0 ≤ 4096
+inside c = omega (arith, lies _ _ _ _ (in-order c) .inside, c .before .before .before .before .before .before .before .before .before .pre)
+
+nodes-holds : tie.Need-nodes-holds Inv-loop μ-loop Inv-nodes μ-nodes
+nodes-holds c = (omega arith, refl, walk-start _ _ _ _ _ (length-replicate 4096 false) (λ w h. getD-replicate 4096 w false false h))
+
+mul-n : tie.Need-mul-n Inv-loop μ-loop Inv-nodes μ-nodes
+mul-n c = search needs
+
+array-copy-out-n : tie.Need-array-copy-out-n Inv-loop μ-loop Inv-nodes μ-nodes
+array-copy-out-n c = search needs
+
+loop-holds : tie.Need-loop-holds Inv-loop μ-loop Inv-nodes μ-nodes
+loop-holds c =
+    let n = nodes17 (c .before .before .before .before .before) in
+    let e = node-any (c .before .before .before .before .before .args .t1) (c .before .before .before .nodes .i) (omega arith) in
+    (omega arith, omega arith, c .before .before .before .nodes .inv .1, walk-in _ _ _ _ _ _ _ (omega arith) (ap (λ (x : Node). x .list) e) (c .before .before .before .nodes .inv .2))
+
+answer-ok-requires : tie.Need-answer-ok-requires Inv-loop μ-loop Inv-nodes μ-nodes
+answer-ok-requires c κs = search needs
+
+mul-len : tie.Need-mul-len Inv-loop μ-loop Inv-nodes μ-nodes
+mul-len c = record { fits = omega (arith, inside c) }
+
+shared-slice-read-len : tie.Need-shared-slice-read-len Inv-loop μ-loop Inv-nodes μ-nodes
+shared-slice-read-len c = omega (arith, inside (c .before), lies _ _ _ _ (in-order (c .before)) .least, c .before .before .before .before .before .before .before .before .before .before .pre)
+
+cast-len : tie.Need-cast-len Inv-loop μ-loop Inv-nodes μ-nodes
+cast-len c = record { fits = omega (arith, c .shared-slice-known2 .given (spot (c .before .before .before))) }
+
+all-free-requires : tie.Need-all-free-requires Inv-loop μ-loop Inv-nodes μ-nodes
+all-free-requires c κs = inside (c .before .before)
+
+mark-requires : tie.Need-mark-requires Inv-loop μ-loop Inv-nodes μ-nodes
+mark-requires c κs = (inside (c .before .before .before .before .before), c .before .before .before .before .before .before .before .before .loop .inv .3 .long)
+
+add-place : tie.Need-add-place Inv-loop μ-loop Inv-nodes μ-nodes
+add-place c = record { fits = omega (arith, inside (c .before .before .before .before .before .before)) }
+
+add-k : tie.Need-add-k Inv-loop μ-loop Inv-nodes μ-nodes
+add-k c = record { fits = omega (arith, inside (c .before .before .before .before .before .before)) }
+
+loop-less : tie.Need-loop-less Inv-loop μ-loop Inv-nodes μ-nodes
+loop-less c = search needs
+
+loop-again : tie.Need-loop-again Inv-loop μ-loop Inv-nodes μ-nodes
+loop-again c =
+    let d = c .before .before .before .before .before .before in
+    let w = walk-at _ _ _ _ _ _ _ (c .before .before .before .before .before .before .before .before .before .loop .k) _ (c .before .before .before .before .before .before .before .before .loop-test .taken) (c .before .before .before .before .before .before .before .before .before .loop .inv .3) in (
+      omega arith,
+      omega (arith, lies _ _ _ _ (in-order d) .least),
+      c .before .before .before .before .before .before .before .before .before .loop .inv .2,
+      ⊎-elim
+          (λ f. walk-next _ _ _ _ _ _ _ _ _ w (in-order d) (inside d) (f .1) (c .mark .ensures))
+          (λ f. absurd (apart (not-false _ (c .before .before .if2 .left)) (f .0)))
+          (c .before .before .before .all-free .ensures),
+    )
+
+add-i : tie.Need-add-i Inv-loop μ-loop Inv-nodes μ-nodes
+add-i c = search needs
+
+nodes-less : tie.Need-nodes-less Inv-loop μ-loop Inv-nodes μ-nodes
+nodes-less c = search needs
+
+nodes-again : tie.Need-nodes-again Inv-loop μ-loop Inv-nodes μ-nodes
+nodes-again c = (omega arith, c .before .loop .inv .2, rw add-one (walk-out _ _ _ _ _ _ _ (c .before .loop .k) _ (c .loop-test .left) (c .before .loop .inv .3)))
+
+returns : tie.Need-returns Inv-loop μ-loop Inv-nodes μ-nodes
+returns c =
+    let n = nodes17 (c .before .before .before) in
+    c .before .nodes .inv .1 ∙ sym (walk-end _ _ _ _ _ (c .before .nodes .i) (omega arith) (c .before .nodes .inv .2))
+
+returns-2 : tie.Need-returns-2 Inv-loop μ-loop Inv-nodes μ-nodes
+returns-2 c =
+    let w = walk-at _ _ _ _ _ _ _ (c .before .before .before .loop .k) _ (c .before .before .loop-test .taken) (c .before .before .before .loop .inv .3) in
+    sym (walk-bad _ _ _ _ _ _ _ _ w (ok-front _ _ _ _ ∙ sym (c .before .answer-ok .ensures) ∙ not-true _ (c .if1 .taken)))
+
+returns-3 : tie.Need-returns-3 Inv-loop μ-loop Inv-nodes μ-nodes
+returns-3 c =
+    let d = c .before .before .before .before in
+    let w = walk-at _ _ _ _ _ _ _ (c .before .before .before .before .before .before .before .loop .k) _ (c .before .before .before .before .before .before .loop-test .taken) (c .before .before .before .before .before .before .before .loop .inv .3) in
+    ⊎-elim
+    (λ f. absurd (apart (f .0) (not-true _ (c .if2 .taken))))
+    (λ f. sym (walk-taken _ _ _ _ _ _ _ _ w (in-order d) (inside d) (f .1)))
+    (c .before .all-free .ensures)
+
+pub fine-lists-spec : {M : Type 1} → statement M
+fine-lists-spec =
+    tie.close
+    (tie.spec
+    Inv-loop
+    μ-loop
+    Inv-nodes
+    μ-nodes
+    nodes-holds
+    mul-n
+    array-copy-out-n
+    loop-holds
+    answer-ok-requires
+    mul-len
+    shared-slice-read-len
+    cast-len
+    all-free-requires
+    mark-requires
+    add-place
+    add-k
+    loop-less
+    loop-again
+    add-i
+    nodes-less
+    nodes-again
+    returns
+    returns-2
+    returns-3)

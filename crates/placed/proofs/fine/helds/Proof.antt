@@ -1,0 +1,77 @@
+-- The array's first i counts are those that are to be there.
+-- Assumes nothing.
+use Prim.Native.Nat.{_-_, _≤_}
+use mathlib.Core.Path.{_≡_, sym, ap, _∙_}
+use native.Mathlib.Omega.{arith}
+use lib.ListN.{length, take, length-map, length-set}
+use lib.Seq.{take-all}
+use borrow.Author.Needs.{needs}
+use Rattle.placed.specs.declared.Node.{Node}
+use Rattle.placed.proofs.InOrder.{node-any, length-words, words-at}
+use Rattle.state.proofs.Lists.{length-mapped, filled}
+use Rattle.state.specs.Consistent.{counts}
+use Rattle.placed.specs.Walked.{wordsOf}
+use Rattle.placed.proofs.fine.helds.Statement.{statement}
+use Rattle.placed.proofs.fine.helds.Tie as tie
+
+abbrev Inv-loop : tie.InvT-loop
+Inv-loop nodes hs₀ i₀ hs i = (i ≤ 17) × (length hs ≡ 17) × (take i (counts hs) ≡ take i (wordsOf nodes))
+
+abbrev μ-loop : tie.MeasureT-loop
+μ-loop nodes hs₀ i₀ hs i = 17 - i
+
+nodes17 : (c : tie.Start Inv-loop μ-loop) → length (c .args .t1) ≡ 17
+nodes17 c = search (needs, length-mapped)
+
+loop-holds : tie.Need-loop-holds Inv-loop μ-loop
+loop-holds c = search needs
+
+mul-n : tie.Need-mul-n Inv-loop μ-loop
+mul-n c = search needs
+
+array-copy-out-n : tie.Need-array-copy-out-n Inv-loop μ-loop
+array-copy-out-n c = search needs
+
+mul-hs : tie.Need-mul-hs Inv-loop μ-loop
+mul-hs c = search needs
+
+array-set-from-hs : tie.Need-array-set-from-hs Inv-loop μ-loop
+array-set-from-hs c = search needs
+
+add-i : tie.Need-add-i Inv-loop μ-loop
+add-i c = search needs
+
+loop-less : tie.Need-loop-less Inv-loop μ-loop
+loop-less c = search needs
+
+loop-again : tie.Need-loop-again Inv-loop μ-loop
+loop-again c =
+    let ns = c .before .before .before .before .before .args .t1 in
+    let l = c .before .before .before .before .loop in
+    let m = nodes17 (c .before .before .before .before .before) in
+    let n = length-words ns ∙ m in
+    let e = ap (λ (x : Node). x .list .words .0) (node-any ns (l .i) (omega arith)) ∙ sym (words-at ns (l .i)) in
+    (omega arith, simp length-set (omega arith), filled (λ w. w .0) (l .hs) _ (l .i) _ 0 (omega arith) (omega arith) (l .inv .2) e)
+
+returns : tie.Need-returns Inv-loop μ-loop
+returns c =
+    let l = c .before .loop in
+    let n = length-words (c .before .before .args .t1) ∙ nodes17 (c .before .before) in
+    let m : length (counts (l .hs)) ≡ 17 = rw length-map (l .inv .1) in
+    sym (take-all (l .i) _ (omega arith)) ∙ l .inv .2 ∙ take-all (l .i) _ (omega arith)
+
+pub helds-spec : {M : Type 1} → statement M
+helds-spec =
+    tie.close
+    (tie.spec
+    Inv-loop
+    μ-loop
+    loop-holds
+    mul-n
+    array-copy-out-n
+    mul-hs
+    array-set-from-hs
+    add-i
+    loop-less
+    loop-again
+    returns)
