@@ -9,6 +9,7 @@ use lib.ListN.{length, take, drop, length-append}
 use lib.Seq.{sets}
 use Rattle.meaning.specs.Bench.{full}
 use Rattle.meaning.specs.Gateway.{Gateway}
+use Rattle.demands.specs.Sound.{full-sound}
 use Rattle.state.specs.Machine.{Machine, meaning}
 use Rattle.state.specs.Consistent.{unfit}
 use Rattle.promise.proofs.Parts.{Parts, parts}
@@ -70,7 +71,7 @@ module _ {input out₀ out : List ℕ} {at to : ℕ} {m : Machine} (a : Along in
       → Plays full m (take (end - at) (drop at input)) out to new to′ m′ → Along input out₀ new (end + 1) to′ m′
   along-turn {end} {new} {to′} {m′} h e p =
       let g : Gateway = meaning full m in
-      let w = plays-wrote full m (a .sound) p in
+      let w = plays-wrote full m (a .sound) p full-sound in
       let t : List ℕ = replyTo full g (spoken (take (end - at) (drop at input))) .line in
       let more : List ℕ = toCome input (end + 1) (meaning full m′) in
       let n : length (linesOf (drop at input)) ≡ suc (length (linesOf (drop (end + 1) input))) =

@@ -1,5 +1,6 @@
 // The console for any caller: a line on any machine, and a whole conversation from a fresh one. Nothing is asked of the caller; one that
 // carries the proof of a consistent machine calls `talk` instead.
+use dialogout::put_store;
 use dialogout::put_unreadable;
 use fit::unfit;
 use gather::count_lines;
@@ -50,6 +51,15 @@ fn judged(s: State, line: &[u8], k: u8, store: &[u16], plaques: &[u8], out: &mut
     match read_line(line, &mut words, &mut id, &mut bytes) {
         Heard::Passed => 0,
         Heard::Unreadable => put_unreadable(out, 0),
+        // A look is no call: the words are shown whatever the state is, if the store has them.
+        Heard::Store(first, count) => {
+            if store.len() != Words::STORE.0 as usize {
+                return put_refused(out, 0, 1);
+            }
+            let from = first as usize;
+            let end = from + count as usize;
+            put_store(out, 0, &store[from..end])
+        }
         _ => put_refused(out, 0, k),
     }
 }
@@ -93,9 +103,9 @@ pub fn converse(input: &[u8], out: &mut [u8]) -> Text
     if out.len() / LONGEST < count_lines(input) {
         return Text::TooShort;
     }
-    let mut store = [0u16; Words::STORE.0];
-    let mut plaques = [0u8; Bytes::PLAQUES.0];
-    let mut s = state::fresh();
+    let mut store = [0u16; Words::STORE.0 as usize];
+    let mut plaques = [0u8; Bytes::PLAQUES.0 as usize];
+    let mut s = state::fresh(&mut store);
     let mut at = 0;
     let mut to = 0;
     let mut end = line_end(input, 0);

@@ -1,6 +1,6 @@
 -- Laws of the calls of the table: numbers one after another, and what makes a line each call.
 -- Assumes nothing.
-use Prim.Native.Nat.{ℕ, _≤_, _<_}
+use Prim.Native.Nat.{ℕ, _+_, _≤_, _<_}
 use mathlib.Core.Path.{_≡_, refl, sym, ap, _∙_}
 use mathlib.Core.Bool.{Bool, true, false, cond, _&&_, _||_, false≢true}
 use mathlib.Core.List.{List, [], _∷_, _++_}
@@ -8,14 +8,15 @@ use native.Mathlib.Omega.{arith}
 use native.Mathlib.Decide.{decLt}
 use lib.Dec.{leb, ltb, eqb}
 use lib.ListN.{length, getD, drop, length-map, List·getD-eq-default}
+use lib.Seq.{getD-drop}
 use borrow.Author.Tests.{lt-ltb, le-ltb, le-leb, leb-true, eq-eqb, ne-eqb, eqb-true}
 use Rattle.units.specs.Count.{every}
 use Rattle.units.proofs.Choice.{yes-cond, no-cond, yes-or, no-or, and-true}
 use Rattle.meaning.specs.Call.{same, Call, command, check, arrive, leave, collect, acknowledge}
 use Rattle.dialog.specs.Fields.{fields, numberOk, wordOk, wordOf, bytesOk, bytesOf}
-use Rattle.dialog.specs.Spoken.{Spoken, passed, unreadable, call, callBy, spoken, saying, isForm, numbersOk, aNode, aNodeAndNumber, aStamp, aNodeAStampAndAClock, field, number, stampFrom}
-use Rattle.dialog.specs.Spoken.{commandOk, checkOk, arriveOk, leaveOk, collectOk, acknowledgeOk}
-use Rattle.dialog.specs.Spoken.{commandSaid, checkSaid, arriveSaid, leaveSaid, collectSaid, acknowledgeSaid, formOf, commandWords}
+use Rattle.dialog.specs.Spoken.{Spoken, passed, unreadable, call, look, callBy, spoken, saying, isForm, numbersOk, aNode, aNodeAndNumber, aFirstAndACount, aStamp, aNodeAStampAndAClock, field, number, stampFrom}
+use Rattle.dialog.specs.Spoken.{commandOk, checkOk, arriveOk, leaveOk, collectOk, acknowledgeOk, storeOk}
+use Rattle.dialog.specs.Spoken.{commandSaid, checkSaid, arriveSaid, leaveSaid, collectSaid, acknowledgeSaid, storeSaid, formOf, commandWords}
 use Rattle.text.specs.Text.{ascii}
 use Rattle.dialog.proofs.HexLaws.{bytes-few}
 use Rattle.dialog.proofs.FieldLaws.{both, nowise, number-is, of-number}
@@ -64,6 +65,11 @@ number-wider most wider (f ∷ fs) h e =
     let n = of-number most f (sym (one-number most f fs) ∙ e) in
     one-number wider f fs ∙ number-is wider f (n .least) (n .short) (n .digits) (omega (arith, n .few))
 
+-- and its value is
+pub few-number : (most : ℕ) (fs : List (List ℕ)) → numbersOk (most ∷ []) fs ≡ true → number fs 0 ≤ most
+few-number most [] e = absurd (false≢true (sym (no-number most) ∙ e))
+few-number most (f ∷ fs) e = of-number most f (sym (one-number most f fs) ∙ e) .few
+
 -- the first numbers of a check
 abbrev nodeAndStamp : List ℕ
 nodeAndStamp = 255 ∷ 255 ∷ 255 ∷ 255 ∷ 255 ∷ 255 ∷ []
@@ -101,6 +107,13 @@ module _ (fs : List (List ℕ)) where
     pub node : numbersOk aNode fs ≡ true
     pub number : numbersOk (65535 ∷ []) (drop 1 fs) ≡ true
     pub two : length fs ≡ 2
+
+  pub record IsStore : Type 0 where
+    pub first : numbersOk (4095 ∷ []) fs ≡ true
+    pub count : numbersOk (128 ∷ []) (drop 1 fs) ≡ true
+    pub two : length fs ≡ 2
+    pub some : 1 ≤ number fs 1
+    pub inside : number fs 0 + number fs 1 ≤ 4096
 
   is-command : IsCommand → commandOk fs ≡ true
   unfolding commandOk
@@ -175,6 +188,27 @@ module _ (fs : List (List ℕ)) where
       let q = and-true (numbersOk aNode fs) (numbersOk (65535 ∷ []) (drop 1 fs)) (sym (numbers-split aNode (65535 ∷ []) fs) ∙ p .0) in
       record { node = q .0; number = q .1; two = eqb-true (length fs) 2 (p .1) }
 
+  is-store : IsStore → storeOk fs ≡ true
+  unfolding storeOk
+  is-store c =
+      both
+      (both (numbers-split (4095 ∷ []) (128 ∷ []) fs ∙ both (c .first) (c .count)) (eq-eqb (length fs) 2 (c .two)))
+      (both (le-leb 1 (number fs 1) (c .some)) (le-leb (number fs 0 + number fs 1) 4096 (c .inside)))
+
+  pub of-store : storeOk fs ≡ true → IsStore
+  unfolding storeOk
+  of-store e =
+      let p = and-true (numbersOk aFirstAndACount fs && eqb (length fs) 2) (leb 1 (number fs 1) && leb (number fs 0 + number fs 1) 4096) e in
+      let q = and-true (numbersOk aFirstAndACount fs) (eqb (length fs) 2) (p .0) in
+      let r = and-true (numbersOk (4095 ∷ []) fs) (numbersOk (128 ∷ []) (drop 1 fs)) (sym (numbers-split (4095 ∷ []) (128 ∷ []) fs) ∙ q .0) in
+      let t = and-true (leb 1 (number fs 1)) (leb (number fs 0 + number fs 1) 4096) (p .1) in record {
+        first = r .0;
+        count = r .1;
+        two = eqb-true (length fs) 2 (q .1);
+        some = leb-true 1 (number fs 1) (t .0);
+        inside = leb-true (number fs 0 + number fs 1) 4096 (t .1);
+      }
+
   pub a-command : IsCommand → commandSaid fs ≡ call (command (stampFrom fs 0) (formOf (field fs 5)) (commandWords fs))
   a-command c = said (commandOk fs) _ (is-command c)
 
@@ -210,6 +244,12 @@ module _ (fs : List (List ℕ)) where
 
   pub no-acknowledge : (IsAcknowledge → ⊥) → acknowledgeSaid fs ≡ unreadable
   no-acknowledge h = unsaid (acknowledgeOk fs) _ (λ e. h (of-acknowledge e))
+
+  pub a-store : IsStore → storeSaid fs ≡ look (number fs 0) (number fs 1)
+  a-store c = yes-cond _ (is-store c)
+
+  pub no-store : (IsStore → ⊥) → storeSaid fs ≡ unreadable
+  no-store h = no-cond _ (nowise (storeOk fs) (λ e. h (of-store e)))
 
   -- a form is one of the fields
   pub form-there : (k : ℕ) → isForm (field fs k) ≡ true → k < length fs
@@ -250,7 +290,7 @@ module _ (line : List ℕ) where
       ∙ no-cond _ (no-or (ne-eqb (length line) 0 d) ∙ ne-eqb (getD line 0 0) 35 e)
       ∙ ap (λ (gs : List (List ℕ)). callBy (getD gs 0 []) (drop 1 gs)) f
 
--- ---- what every line that is a call keeps to: its packet, its ID and its plaque have room, and collect lends 135 words
+-- ---- what every line keeps to: a call's packet, ID and plaque have room, and collect lends 135 words; a look is within the store
 unfoldable pub Kept : Spoken → Type 0
 Kept passed = Unit {0}
 Kept unreadable = Unit {0}
@@ -260,6 +300,7 @@ Kept (call (arrive n id s)) = (length id ≤ 16) × (length s ≤ 2047)
 Kept (call (leave n)) = Unit {0}
 Kept (call (collect f n k)) = k ≡ 135
 Kept (call (acknowledge n h)) = Unit {0}
+Kept (look first count) = (count ≤ 128) × (first + count ≤ 4096)
 
 if-said : (ok : Bool) (c : Call) → (ok ≡ true → Kept (call c)) → Kept (saying ok c)
 unfolding Kept
@@ -270,6 +311,14 @@ either : (t : Bool) (a b : Spoken) → Kept a → Kept b → Kept (cond t a b)
 either true a b p q = p
 either false a b p q = q
 
+store-kept : (fs : List (List ℕ)) → Kept (storeSaid fs)
+unfolding Kept
+store-kept fs = go (storeOk fs) refl
+  where
+    go : (t : Bool) → storeOk fs ≡ t → Kept (cond t (look (number fs 0) (number fs 1)) unreadable)
+    go true e = let s = of-store fs e in (rw (sym (getD-drop 1 fs 0 [])) (few-number 128 (drop 1 fs) (s .count)), s .inside)
+    go false e = tt
+
 by-kept : (w : List ℕ) (fs : List (List ℕ)) → Kept (callBy w fs)
 unfolding Kept callBy
 by-kept w fs =
@@ -279,7 +328,8 @@ by-kept w fs =
     (if-said (arriveOk fs) _ (λ e. (bytes-few 16 (field fs 1) (of-arrive fs e .id), bytes-few 2047 (field fs 2) (of-arrive fs e .bytes))))
     (either (same w (ascii "leave")) _ _ (if-said (leaveOk fs) _ (λ e. tt))
     (either (same w (ascii "collect")) _ _ (if-said (collectOk fs) _ (λ e. refl))
-    (either (same w (ascii "acknowledge")) _ _ (if-said (acknowledgeOk fs) _ (λ e. tt)) tt)))))
+    (either (same w (ascii "acknowledge")) _ _ (if-said (acknowledgeOk fs) _ (λ e. tt))
+    (either (same w (ascii "store")) _ _ (store-kept fs) tt))))))
 
 pub spoken-kept : (line : List ℕ) → Kept (spoken line)
 unfolding Kept spoken

@@ -216,5 +216,77 @@ outCases =
     (ascii "done\nqueued\ncollected 1 FF02 0086 AA05 0002 0313 0A0B 24FF" ++ times 127 " ABAB" ++ ascii " AB00\n")
     ∷ []
 
+-- ---- "`store FIRST COUNT`: FIRST and FIRST + COUNT within the store, COUNT 1 to 128, else unreadable"
+-- so many words that are 0, behind words of an answer
+abbrev zeros : ℕ → List ℕ
+zeros n = times n " 0000" ++ (10 ∷ [])
+
+unfoldable pub lookCases : List Case
+lookCases =
+    "a word" says "store 0 1" brings "store 0000"
+    ∷ "no word" says "store 0 0" brings "unreadable"
+    ∷ "128 words" says given (ascii "store 0 128") (ascii "store" ++ zeros 128)
+    ∷ "129 words" says "store 0 129" brings "unreadable"
+    ∷ "the store's last word" says "store 4095 1" brings "store 0000"
+    ∷ "and the one behind it" says "store 4095 2" brings "unreadable"
+    ∷ "from behind the store" says "store 4096 1" brings "unreadable"
+    ∷ "the store's last 128 words" says given (ascii "store 3968 128") (ascii "store" ++ zeros 128)
+    ∷ "and the one behind them" says "store 3969 128" brings "unreadable"
+    ∷ "store alone" says "store" brings "unreadable"
+    ∷ "store without a count" says "store 0" brings "unreadable"
+    ∷ "store and a field more" says "store 0 1 1" brings "unreadable"
+    ∷ "store and a blank" says "store 0 1 " brings "unreadable"
+    ∷ "a first word of -1" says "store -1 1" brings "unreadable"
+    ∷ "a count of -1" says "store 0 -1" brings "unreadable"
+    ∷ "a first word and a count of ten digits" says "store 0000004094 0000000002" brings "store 0000 0000"
+    ∷ "a first word of eleven digits" says "store 00000000000 1" brings "unreadable"
+    ∷ "a count of eleven digits" says "store 0 00000000001" brings "unreadable"
+    ∷ "a first word of 4,294,967,295" says "store 4294967295 1" brings "unreadable"
+    ∷ "a count of 4,294,967,295" says "store 1 4294967295" brings "unreadable"
+    ∷ "store in upper case" says "Store 0 1" brings "unreadable"
+    ∷ []
+
+-- 54 and 11 have answers of six words; 08 without a plaque one of seven, with 07 for its error
+unfoldable pub storeCases : List Case
+storeCases =
+    "node 1's answers lie before node 2's, whichever was made first" says
+    ("command 3 19 10 11 36 register 0006 AA54 0002 0000 0000 0000" ∷ "store 0 7"
+    ∷ "command 3 19 10 11 36 register 0006 AA08 0001 0001 0000 0000" ∷ "store 0 14" ∷ [])
+    bring ("queued" ∷ "store 0006 AA54 0002 0313 0A0B 2400 0000" ∷ "queued"
+    ∷ "store 0007 FFFF 0001 0313 0A0B 2401 0700 0006 AA54 0002 0313 0A0B 2400 0000" ∷ [])
+    ∷ "words from the midst of an answer into the next" says
+    ("command 3 19 10 11 36 register 0006 AA54 0002 0000 0000 0000" ∷ "command 3 19 10 11 36 register 0006 AA08 0001 0001 0000 0000"
+    ∷ "store 5 4" ∷ "store 13 1" ∷ [])
+    bring ("queued" ∷ "queued" ∷ "store 2401 0700 0006 AA54" ∷ "store 0000" ∷ [])
+    ∷ "a node's answers lie oldest first" says
+    ("command 3 19 10 11 36 register 0006 AA54 0001 0000 0000 0000" ∷ "command 3 19 10 11 36 register 0006 AA08 0001 0001 0000 0000"
+    ∷ "store 0 14" ∷ [])
+    bring ("queued" ∷ "queued" ∷ "store 0006 AA54 0001 0313 0A0B 2400 0007 FFFF 0101 0313 0A0B 2401 0700 0000" ∷ [])
+    ∷ "what is acknowledged leaves the store, and the freed words are 0" says
+    ("command 3 19 10 11 36 register 0006 AA08 0001 0001 0000 0000" ∷ "command 3 19 10 11 36 register 0006 AA54 0002 0000 0000 0000"
+    ∷ "acknowledge 1 1" ∷ "store 0 14" ∷ "acknowledge 2 1" ∷ "store 0 7" ∷ [])
+    bring ("queued" ∷ "queued" ∷ "done" ∷ "store 0006 AA54 0002 0313 0A0B 2400 0000 0000 0000 0000 0000 0000 0000 0000" ∷ "done"
+    ∷ "store 0000 0000 0000 0000 0000 0000 0000" ∷ [])
+    ∷ "node 32's lie last, and the rest is 0" says
+    given (lines ("command 3 19 10 11 36 register 0006 AA11 0020 0000 0000 0000"
+    ∷ "command 3 19 10 11 36 register 0006 AA54 0001 0000 0000 0000" ∷ "store 0 128" ∷ []))
+    (ascii "queued\nqueued\nstore 0006 AA54 0001 0313 0A0B 2400 0006 AA11 0020 0313 0A0B 2400" ++ zeros 116)
+    ∷ "node 16's lie before them, and node 10's between" says
+    ("command 3 19 10 11 36 register 0006 AA11 0020 0000 0000 0000" ∷ "command 3 19 10 11 36 register 0006 AA54 0010 0000 0000 0000"
+    ∷ "command 3 19 10 11 36 register 0006 AA54 000A 0000 0000 0000" ∷ "store 0 18" ∷ [])
+    bring ("queued" ∷ "queued" ∷ "queued"
+    ∷ "store 0006 AA54 000A 0313 0A0B 2400 0006 AA54 0010 0313 0A0B 2400 0006 AA11 0020 0313 0A0B 2400" ∷ [])
+    ∷ "79 leaves its own answer alone" says
+    given (lines ("command 3 19 10 11 36 register 0006 AA11 0020 0000 0000 0000"
+    ∷ "command 3 19 10 11 36 register 0006 AA54 0001 0000 0000 0000" ∷ "command 3 19 10 11 36 register 0006 AA79 0020 0000 0000 0000"
+    ∷ "store 0 128" ∷ []))
+    (ascii "queued\nqueued\nqueued\nstore 0006 AA79 0120 0313 0A0B 2400" ++ zeros 122)
+    ∷ "a look changes nothing" says
+    ("command 3 19 10 11 36 register 0006 AA54 0001 0000 0000 0000" ∷ "store 0 6" ∷ "collect 1 register" ∷ "store 0 6" ∷ "acknowledge 1 1"
+    ∷ [])
+    bring ("queued" ∷ "store 0006 AA54 0001 0313 0A0B 2400" ∷ "collected 1 0006 AA54 0001 0313 0A0B 2400"
+    ∷ "store 0006 AA54 0001 0313 0A0B 2400" ∷ "done" ∷ [])
+    ∷ []
+
 unfoldable pub talkCases : List Case
-talkCases = lineCases ++ callCases ++ numberCases ++ wordCases ++ byteCases ++ outCases
+talkCases = lineCases ++ callCases ++ numberCases ++ wordCases ++ byteCases ++ outCases ++ lookCases ++ storeCases

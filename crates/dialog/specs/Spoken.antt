@@ -1,4 +1,4 @@
--- The console, "Lines in": what a line says, a call of document 01, nothing, or nothing that can be read.
+-- The console, "Lines in": what a line says, a call of document 01, a look at the store, nothing, or nothing that can be read.
 -- Assumes nothing.
 use Prim.Native.Nat.{ℕ, _+_}
 use mathlib.Core.Bool.{Bool, true, false, _&&_, _||_, cond}
@@ -10,12 +10,14 @@ use Rattle.units.specs.declared.Form.{Form}
 use Rattle.units.specs.declared.Form.the-variants.{Register, Framed}
 use Rattle.units.specs.declared.stamp.Stamp.{Stamp}
 use Rattle.text.specs.Text.{ascii}
+use Rattle.meaning.specs.Bench.{full}
 use Rattle.meaning.specs.Call.{Call, command, check, arrive, leave, collect, acknowledge, same}
 use Rattle.dialog.specs.Fields.{fields, valueOf, numberOk, wordOk, wordOf, bytesOk, bytesOf}
 
 pub data Spoken : Type 0 where
   passed unreadable : Spoken
   call : Call → Spoken
+  look : ℕ → ℕ → Spoken  -- at words of the answer store: the first, and how many. It is no call: it changes nothing
 
 -- ---- the fields of a call, after its first
 -- a form
@@ -37,6 +39,9 @@ aNode = 255 ∷ []
 
 abbrev pub aNodeAndNumber : List ℕ
 aNodeAndNumber = 255 ∷ 65535 ∷ []
+
+abbrev pub aFirstAndACount : List ℕ
+aFirstAndACount = 4095 ∷ 128 ∷ []
 
 abbrev pub aStamp : List ℕ
 aStamp = 255 ∷ 255 ∷ 255 ∷ 255 ∷ 255 ∷ []
@@ -82,10 +87,14 @@ module _ (fs : List (List ℕ)) where
   unfoldable pub acknowledgeOk : Bool
   acknowledgeOk = numbersOk aNodeAndNumber fs && eqb (length fs) 2
 
+  -- "`store FIRST COUNT`: FIRST and FIRST + COUNT within the store, COUNT 1 to 128, else unreadable"
+  unfoldable pub storeOk : Bool
+  storeOk = numbersOk aFirstAndACount fs && eqb (length fs) 2 && (leb 1 (number 1) && leb (number 0 + number 1) (full .store))
+
 abbrev pub saying : Bool → Call → Spoken
 saying ok c = cond ok (call c) unreadable
 
--- ---- the table: a call by its first field, and the others
+-- ---- the table: a call or a look by its first field, and the others
 abbrev pub commandSaid : List (List ℕ) → Spoken
 commandSaid fs = saying (commandOk fs) (command (stampFrom fs 0) (formOf (field fs 5)) (commandWords fs))
 
@@ -104,13 +113,17 @@ collectSaid fs = saying (collectOk fs) (collect (formOf (field fs 1)) (number fs
 abbrev pub acknowledgeSaid : List (List ℕ) → Spoken
 acknowledgeSaid fs = saying (acknowledgeOk fs) (acknowledge (number fs 0) (number fs 1))
 
+abbrev pub storeSaid : List (List ℕ) → Spoken
+storeSaid fs = cond (storeOk fs) (look (number fs 0) (number fs 1)) unreadable
+
 unfoldable pub callBy : List ℕ → List (List ℕ) → Spoken
 callBy w fs =
     cond (same w (ascii "command")) (commandSaid fs)
     (cond (same w (ascii "check")) (checkSaid fs)
     (cond (same w (ascii "arrive")) (arriveSaid fs)
     (cond (same w (ascii "leave")) (leaveSaid fs)
-    (cond (same w (ascii "collect")) (collectSaid fs) (cond (same w (ascii "acknowledge")) (acknowledgeSaid fs) unreadable)))))
+    (cond (same w (ascii "collect")) (collectSaid fs)
+    (cond (same w (ascii "acknowledge")) (acknowledgeSaid fs) (cond (same w (ascii "store")) (storeSaid fs) unreadable))))))
 
 -- "First of all its length is looked at: a line of more than 4,400 bytes before its line feed is unreadable, whatever it starts with ..
 -- Then an empty line, and one whose first byte is `#`, are passed over .. Any other line that is no call of the table, to the byte .., is

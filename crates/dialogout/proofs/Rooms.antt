@@ -12,7 +12,7 @@ use Rattle.promise.specs.Obeyed.{spoken}
 use Rattle.promise.specs.declared.Reply.{Reply}
 use Rattle.text.proofs.Writing.{length-words, decimal-short}
 use Rattle.listingout.proofs.Rooms.{refused-short}
-use Rattle.dialog.specs.Dialog.{unreadableLine, collectedLine, saidLine}
+use Rattle.dialog.specs.Dialog.{unreadableLine, collectedLine, saidLine, storeLine}
 
 pub length-unreadable : length unreadableLine ≡ 11
 unfolding unreadableLine
@@ -22,6 +22,10 @@ length-unreadable = refl
 pub collected-short : (h : ℕ) (ws : List ℕ) → h < 10 ^ 5 → length ws ≤ 135 → length (collectedLine h ws) ≤ 691
 unfolding collectedLine
 collected-short h ws a b = simp length-append (omega (arith, decimal-short 4 h a, length-words ws))
+
+pub store-short : (ws : List ℕ) → length ws ≤ 128 → length (storeLine ws) ≤ 691
+unfolding storeLine
+store-short ws h = simp length-append (omega (arith, length-words ws))
 
 -- a reply, of which its owner knows that the number of a refusal is a byte
 pub said-short : (r : Reply) (vs : List Val) → shadow (the-reply.the-field .row .own (the-reply.the-type .to r) vs) → length (saidLine (spoken r)) ≤ 14

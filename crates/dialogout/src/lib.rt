@@ -9,7 +9,7 @@ ghost use Prim.Native.Nat.{_+_, _≤_};
 ghost use lib.ListN.{length};
 ghost use Rattle.text.specs.Text.{Put};
 ghost use Rattle.promise.specs.Obeyed.{spoken};
-ghost use Rattle.dialog.specs.Dialog.{unreadableLine, collectedLine, saidLine};
+ghost use Rattle.dialog.specs.Dialog.{unreadableLine, collectedLine, saidLine, storeLine};
 
 pub fn put_unreadable(out: &mut [u8], at: usize) -> usize
     requires { ⌜ at + 11 ≤ length (now out) ⌝ }
@@ -40,4 +40,13 @@ pub fn put_collected(out: &mut [u8], at: usize, number: u16, words: &[u16]) -> u
     let end = put_decimal(out, to, number as usize);
     let from = put(out, end, 32);
     put_words(out, from, words)
+}
+
+// Words of the answer store.
+pub fn put_store(out: &mut [u8], at: usize, words: &[u16]) -> usize
+    requires { ⌜ (at + 691 ≤ length (now out)) × (length (now words) ≤ 128) ⌝ }
+    ensures { λ r. ⌜ Put (now (out .entry)) at (storeLine (now (words .entry))) (now (out .exit)) r ⌝ }
+{
+    let to = put_text(out, at, b"store ");
+    put_words(out, to, words)
 }

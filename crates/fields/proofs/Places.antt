@@ -98,15 +98,15 @@ module _ (line : List ℕ) where
   unfolding wordsAt
   words-ok at e = ap (λ (r : WordsRead). r .ok) e
 
-  pub words-count : (at : ℕ) {r : WordsRead} → r ≡ wordsAt line at → r .ok ≡ true → r .words .0 ≡ length (fieldsFrom line at)
+  pub words-count : (at : ℕ) {r : WordsRead} → r ≡ wordsAt line at → r .ok ≡ true → r .words ≡ length (fieldsFrom line at)
   unfolding wordsAt
-  words-count at e t = ap (λ (r : WordsRead). r .words .0) e ∙ yes-cond 0 (sym (words-ok at e) ∙ t)
+  words-count at e t = ap (λ (r : WordsRead). r .words) e ∙ yes-cond 0 (sym (words-ok at e) ∙ t)
 
-  pub no-words : (at : ℕ) → every wordOk (fieldsFrom line at) ≡ false → record { ok = false; words = record { 0 = 0 } } ≡ wordsAt line at
+  pub no-words : (at : ℕ) → every wordOk (fieldsFrom line at) ≡ false → record { ok = false; words = 0 } ≡ wordsAt line at
   unfolding wordsAt
   no-words at e = rw e
 
   pub all-words : (at n : ℕ) → every wordOk (fieldsFrom line at) ≡ true → n ≡ length (fieldsFrom line at)
-      → record { ok = true; words = record { 0 = n } } ≡ wordsAt line at
+      → record { ok = true; words = n } ≡ wordsAt line at
   unfolding wordsAt
   all-words at n e k = rw (e, k)

@@ -18,13 +18,15 @@ use Rattle.fields.specs.declared.number.NodeRead.{NodeRead}
 use Rattle.fields.specs.declared.number.StampRead.{StampRead}
 use Rattle.fields.specs.declared.hex.WordsRead.{WordsRead}
 
--- a call's first field
+-- a line's first field
 unfoldable pub verbOf : List ℕ → Verb
 verbOf w =
     cond (same w (ascii "command")) Verb.Command
     (cond (same w (ascii "check")) Verb.Check
     (cond (same w (ascii "arrive")) Verb.Arrive
-    (cond (same w (ascii "leave")) Verb.Leave (cond (same w (ascii "collect")) Verb.Collect (cond (same w (ascii "acknowledge")) Verb.Acknowledge Verb.None)))))
+    (cond (same w (ascii "leave")) Verb.Leave
+    (cond (same w (ascii "collect")) Verb.Collect
+    (cond (same w (ascii "acknowledge")) Verb.Acknowledge (cond (same w (ascii "store")) Verb.Store Verb.None))))))
 
 -- the fields from a place on: none past the line's end
 unfoldable pub fieldsFrom : List ℕ → ℕ → List (List ℕ)
@@ -78,4 +80,4 @@ wordsFrom line at = map wordOf (fieldsFrom line at)
 unfoldable pub wordsAt : List ℕ → ℕ → WordsRead
 wordsAt line at =
     let ok = every wordOk (fieldsFrom line at) in
-    record { ok = ok; words = record { 0 = cond ok (length (fieldsFrom line at)) 0 } }
+    record { ok = ok; words = cond ok (length (fieldsFrom line at)) 0 }

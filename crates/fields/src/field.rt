@@ -7,7 +7,7 @@ ghost use Rattle.meaning.specs.Call.{same};
 ghost use Rattle.dialog.specs.Spoken.{isForm, formOf};
 ghost use Rattle.fields.specs.FieldsAt.{FieldAt, verbOf};
 
-// A call's first field.
+// A line's first field, of a call or a look at the store.
 pub enum Verb {
     Command,
     Check,
@@ -15,6 +15,7 @@ pub enum Verb {
     Leave,
     Collect,
     Acknowledge,
+    Store,
     None,
 }
 
@@ -74,6 +75,9 @@ pub fn verb_of(field: &[u8]) -> Verb
     }
     if is_same(field, b"acknowledge") {
         return Verb::Acknowledge;
+    }
+    if is_same(field, b"store") {
+        return Verb::Store;
     }
     Verb::None
 }

@@ -3,7 +3,6 @@ use crate::field::field_end;
 use crate::field::is_same;
 use crate::number::is_within;
 use units::Bytes;
-use units::Words;
 ghost use mathlib.Core.Path.{_≡_};
 ghost use mathlib.Core.Bool.{true};
 ghost use Prim.Native.Nat.{_+_, _*_, _<_};
@@ -13,10 +12,10 @@ ghost use Rattle.units.specs.Packing.{onto};
 ghost use Rattle.dialog.specs.Fields.{isHex, hexDigit, wordOk, wordOf, bytesOk, bytesOf};
 ghost use Rattle.fields.specs.FieldsAt.{fieldsFrom, wordsAt, wordsFrom};
 
-// How many fields from a place on are words, where all are.
+// How many fields from a place on are words, where all are. A line may have more than a word can say, so this is no Words.
 pub struct WordsRead {
     pub ok: bool,
-    pub words: Words,
+    pub words: usize,
 }
 
 fn is_hex(c: u8) -> bool
@@ -92,16 +91,13 @@ pub fn count_words(line: &[u8], at: usize) -> WordsRead
         if !is_word(&line[from..end]) {
             return WordsRead {
                 ok: false,
-                words: Words(0),
+                words: 0,
             };
         }
         n += 1;
         from = end + 1;
     }
-    WordsRead {
-        ok: true,
-        words: Words(n),
-    }
+    WordsRead { ok: true, words: n }
 }
 
 // And put to the front of out, as many as it has room for.
@@ -123,8 +119,8 @@ pub fn put_words(line: &[u8], at: usize, out: &mut [u16])
 }
 
 // Whether a field is at most so many bytes.
-pub fn is_bytes(field: &[u8], most: usize) -> bool
-    ensures { λ r. ⌜ r ≡ bytesOk most (now (field .entry)) ⌝ }
+pub fn is_bytes(field: &[u8], most: Bytes) -> bool
+    ensures { λ r. ⌜ r ≡ bytesOk (most .0) (now (field .entry)) ⌝ }
 {
     if is_same(field, b"-") {
         return true;
@@ -136,30 +132,31 @@ pub fn is_bytes(field: &[u8], most: usize) -> bool
     if n % 2 != 0 {
         return false;
     }
-    if most < n / 2 {
+    if (most.0 as usize) < n / 2 {
         return false;
     }
     all_hex(field)
 }
 
 // A field's bytes, put to the front of out, as many as it has room for; how many there are.
-pub fn put_bytes(field: &[u8], most: usize, out: &mut [u8]) -> Bytes
-    requires { ⌜ bytesOk most (now field) ≡ true ⌝ }
+pub fn put_bytes(field: &[u8], most: Bytes, out: &mut [u8]) -> Bytes
+    requires { ⌜ bytesOk (most .0) (now field) ≡ true ⌝ }
     ensures { λ r. ⌜ r .0 ≡ length (bytesOf (now (field .entry))) ⌝ }
     ensures { λ _. ⌜ now (out .exit) ≡ onto (bytesOf (now (field .entry))) (now (out .entry)) ⌝ }
 {
     if is_same(field, b"-") {
         return Bytes(0);
     }
+    let n = (field.len() / 2) as u16;
     let mut i = 0;
     let mut at = 0;
     while i < out.len() {
         if field.len() <= at {
-            return Bytes(field.len() / 2);
+            return Bytes(n);
         }
         out[i] = byte_of(field[at], field[at + 1]);
         i += 1;
         at += 2;
     }
-    Bytes(field.len() / 2)
+    Bytes(n)
 }

@@ -12,9 +12,9 @@ use Rattle.units.specs.Packing.{onto}
 use Rattle.units.specs.declared.Form.{Form}
 use Rattle.units.specs.declared.stamp.Stamp.{Stamp}
 use Rattle.dialog.specs.Fields.{bytesOf}
-use Rattle.dialog.specs.Spoken.{commandSaid, checkSaid, arriveSaid, leaveSaid, collectSaid, acknowledgeSaid, field, number, stampFrom, formOf, commandWords}
+use Rattle.dialog.specs.Spoken.{commandSaid, checkSaid, arriveSaid, leaveSaid, collectSaid, acknowledgeSaid, storeSaid, field, number, stampFrom, formOf, commandWords}
 use Rattle.dialog.proofs.SpokenLaws.{IsCommand, a-command, no-command, IsCheck, a-check, no-check, IsArrive, a-arrive, no-arrive}
-use Rattle.dialog.proofs.SpokenLaws.{IsLeave, a-leave, no-leave, IsCollect, a-collect, no-collect, IsAcknowledge, a-acknowledge, no-acknowledge}
+use Rattle.dialog.proofs.SpokenLaws.{IsLeave, a-leave, no-leave, IsCollect, a-collect, no-collect, IsAcknowledge, a-acknowledge, no-acknowledge, IsStore, a-store, no-store}
 use Rattle.dialog.proofs.HexLaws.{onto-none}
 use Rattle.lines.specs.declared.Heard.{Heard}
 use Rattle.fields.specs.FieldsAt.{fieldsFrom, FieldAt}
@@ -124,3 +124,11 @@ module _ (fs : List (List ℕ)) where
   pub acknowledge-unheard : (IsAcknowledge fs → ⊥) → Heard.Unreadable ≡ heardOf (acknowledgeSaid fs)
   unfolding heardOf
   acknowledge-unheard h = rw (no-acknowledge fs h)
+
+  pub store-heard : (f k : ℕ) → IsStore fs → f ≡ number fs 0 → k ≡ number fs 1 → Heard.Store f k ≡ heardOf (storeSaid fs)
+  unfolding heardOf
+  store-heard f k c ef ek = rw (a-store fs c, ef, ek)
+
+  pub store-unheard : (IsStore fs → ⊥) → Heard.Unreadable ≡ heardOf (storeSaid fs)
+  unfolding heardOf
+  store-unheard h = rw (no-store fs h)

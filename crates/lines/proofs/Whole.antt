@@ -9,15 +9,15 @@ use lib.ListN.{length, getD, take}
 use Rattle.units.specs.Packing.{onto}
 use Rattle.meaning.specs.Call.{Call, command, check, arrive, leave, collect, acknowledge, same}
 use Rattle.dialog.specs.Fields.{bytesOf}
-use Rattle.dialog.specs.Spoken.{Spoken, passed, unreadable, call, saying, callBy, spoken, field, number, stampFrom, formOf, commandWords}
-use Rattle.dialog.specs.Spoken.{commandOk, checkOk, arriveOk, leaveOk, collectOk, acknowledgeOk}
-use Rattle.dialog.specs.Spoken.{commandSaid, checkSaid, arriveSaid, leaveSaid, collectSaid, acknowledgeSaid}
+use Rattle.dialog.specs.Spoken.{Spoken, passed, unreadable, call, look, saying, callBy, spoken, field, number, stampFrom, formOf, commandWords}
+use Rattle.dialog.specs.Spoken.{commandOk, checkOk, arriveOk, leaveOk, collectOk, acknowledgeOk, storeOk}
+use Rattle.dialog.specs.Spoken.{commandSaid, checkSaid, arriveSaid, leaveSaid, collectSaid, acknowledgeSaid, storeSaid}
 use Rattle.text.specs.Text.{ascii}
 use Rattle.dialog.proofs.SpokenLaws.{tried}
 use Rattle.dialog.proofs.HexLaws.{onto-none}
 use Rattle.lines.specs.declared.Heard.{Heard}
 use Rattle.fields.specs.declared.field.Verb.{Verb}
-use Rattle.fields.specs.declared.field.Verb.the-variants.{Command, Check, Arrive, Leave, Collect, Acknowledge, None}
+use Rattle.fields.specs.declared.field.Verb.the-variants.{Command, Check, Arrive, Leave, Collect, Acknowledge, Store, None}
 use Rattle.fields.specs.FieldsAt.{verbOf, fieldsFrom, FieldAt}
 use Rattle.lines.specs.Heard.{heardOf, wordsIn, idIn, bytesIn}
 use Rattle.fields.proofs.Places.{from-in}
@@ -30,22 +30,24 @@ sayBy Arrive fs = arriveSaid fs
 sayBy Leave fs = leaveSaid fs
 sayBy Collect fs = collectSaid fs
 sayBy Acknowledge fs = acknowledgeSaid fs
+sayBy Store fs = storeSaid fs
 sayBy None fs = unreadable
 
-by-tests : (a b c d e f : Bool) (fs : List (List ℕ)) → cond a (commandSaid fs) (cond b (checkSaid fs) (cond c (arriveSaid fs) (cond d (leaveSaid fs) (cond e (collectSaid fs) (cond f (acknowledgeSaid fs) unreadable)))))
-    ≡ sayBy (cond a Command (cond b Check (cond c Arrive (cond d Leave (cond e Collect (cond f Acknowledge None)))))) fs
-by-tests true b c d e f fs = refl
-by-tests false true c d e f fs = refl
-by-tests false false true d e f fs = refl
-by-tests false false false true e f fs = refl
-by-tests false false false false true f fs = refl
-by-tests false false false false false true fs = refl
-by-tests false false false false false false fs = refl
+by-tests : (a b c d e f g : Bool) (fs : List (List ℕ)) → cond a (commandSaid fs) (cond b (checkSaid fs) (cond c (arriveSaid fs) (cond d (leaveSaid fs) (cond e (collectSaid fs) (cond f (acknowledgeSaid fs) (cond g (storeSaid fs) unreadable))))))
+    ≡ sayBy (cond a Command (cond b Check (cond c Arrive (cond d Leave (cond e Collect (cond f Acknowledge (cond g Store None))))))) fs
+by-tests true b c d e f g fs = refl
+by-tests false true c d e f g fs = refl
+by-tests false false true d e f g fs = refl
+by-tests false false false true e f g fs = refl
+by-tests false false false false true f g fs = refl
+by-tests false false false false false true g fs = refl
+by-tests false false false false false false true fs = refl
+by-tests false false false false false false false fs = refl
 
 pub by-verb : (w : List ℕ) (fs : List (List ℕ)) (v : Verb) → v ≡ verbOf w → callBy w fs ≡ sayBy v fs
 unfolding callBy verbOf
 by-verb w fs v e =
-    by-tests (same w (ascii "command")) (same w (ascii "check")) (same w (ascii "arrive")) (same w (ascii "leave")) (same w (ascii "collect")) (same w (ascii "acknowledge")) fs
+    by-tests (same w (ascii "command")) (same w (ascii "check")) (same w (ascii "arrive")) (same w (ascii "leave")) (same w (ascii "collect")) (same w (ascii "acknowledge")) (same w (ascii "store")) fs
     ∙ ap (λ (u : Verb). sayBy u fs) (sym e)
 
 -- the first field ends at r, and v is its verb
@@ -66,6 +68,10 @@ still {xs} l e = sym (ap (λ (z : List ℕ). onto z l) e ∙ onto-none l)
 none-in : (g : Spoken → List ℕ) (ok : Bool) (c : Call) → g (call c) ≡ [] → g unreadable ≡ [] → g (saying ok c) ≡ []
 none-in g true c e u = e
 none-in g false c e u = u
+
+look-none : (g : Spoken → List ℕ) (ok : Bool) (f c : ℕ) → g (look f c) ≡ [] → g unreadable ≡ [] → g (cond ok (look f c) unreadable) ≡ []
+look-none g true f c e u = e
+look-none g false f c e u = u
 
 module _ (w i b : List ℕ) (r : Heard) where
   pub passed-read : (s : Spoken) → s ≡ passed → r ≡ Heard.Passed → Read s r w w i i b b
@@ -116,3 +122,10 @@ module _ (w i b : List ℕ) (r : Heard) where
     pub acknowledge-read : s ≡ acknowledgeSaid fs → r ≡ heardOf (acknowledgeSaid fs) → Read s r w w i i b b
     unfolding wordsIn idIn bytesIn
     acknowledge-read = quiet-read s (acknowledgeOk fs) (acknowledge (number fs 0) (number fs 1)) refl refl refl
+
+    pub store-read : s ≡ storeSaid fs → r ≡ heardOf (storeSaid fs) → Read s r w w i i b b
+    unfolding wordsIn idIn bytesIn
+    store-read e h = rw e (h, (still w (none wordsIn refl refl), (still i (none idIn refl refl), still b (none bytesIn refl refl))))
+      where
+        none : (g : Spoken → List ℕ) → g (look (number fs 0) (number fs 1)) ≡ [] → g unreadable ≡ [] → g (storeSaid fs) ≡ []
+        none g e u = look-none g (storeOk fs) (number fs 0) (number fs 1) e u

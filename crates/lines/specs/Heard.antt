@@ -4,7 +4,7 @@ use Prim.Native.Nat.{ℕ}
 use mathlib.Core.List.{List, []}
 use lib.ListN.{length}
 use Rattle.meaning.specs.Call.{command, check, arrive, leave, collect, acknowledge}
-use Rattle.dialog.specs.Spoken.{Spoken, passed, unreadable, call}
+use Rattle.dialog.specs.Spoken.{Spoken, passed, unreadable, call, look}
 use Rattle.lines.specs.declared.Heard.{Heard}
 
 unfoldable pub heardOf : Spoken → Heard
@@ -16,6 +16,7 @@ heardOf (call (arrive n id s)) = Heard.Arrive n (record { 0 = length id }) (reco
 heardOf (call (leave n)) = Heard.Leave n
 heardOf (call (collect f n k)) = Heard.Collect n f
 heardOf (call (acknowledge n h)) = Heard.Acknowledge n h
+heardOf (look f c) = Heard.Store f c
 
 -- what stands in the buffers
 unfoldable pub wordsIn : Spoken → List ℕ
@@ -27,6 +28,7 @@ wordsIn (call (arrive n id s)) = []
 wordsIn (call (leave n)) = []
 wordsIn (call (collect f n k)) = []
 wordsIn (call (acknowledge n h)) = []
+wordsIn (look f c) = []
 
 unfoldable pub idIn : Spoken → List ℕ
 idIn passed = []
@@ -37,6 +39,7 @@ idIn (call (arrive n id s)) = id
 idIn (call (leave n)) = []
 idIn (call (collect f n k)) = []
 idIn (call (acknowledge n h)) = []
+idIn (look f c) = []
 
 unfoldable pub bytesIn : Spoken → List ℕ
 bytesIn passed = []
@@ -47,3 +50,4 @@ bytesIn (call (arrive n id s)) = s
 bytesIn (call (leave n)) = []
 bytesIn (call (collect f n k)) = []
 bytesIn (call (acknowledge n h)) = []
+bytesIn (look f c) = []

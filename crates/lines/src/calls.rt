@@ -1,4 +1,4 @@
-// The calls of the table: each from the place after its first field.
+// The lines of the table: each from the place after its first field.
 use crate::Heard;
 use fields::field::field_end;
 use fields::field::form_of;
@@ -9,9 +9,11 @@ use fields::hex::put_words;
 use fields::number::read_node;
 use fields::number::read_number;
 use fields::number::read_stamp;
+use units::Bytes;
+use units::Words;
 ghost use mathlib.Core.Path.{_≡_};
 ghost use Rattle.units.specs.Packing.{onto};
-ghost use Rattle.dialog.specs.Spoken.{commandSaid, checkSaid, arriveSaid, leaveSaid, collectSaid, acknowledgeSaid};
+ghost use Rattle.dialog.specs.Spoken.{commandSaid, checkSaid, arriveSaid, leaveSaid, collectSaid, acknowledgeSaid, storeSaid};
 ghost use Rattle.fields.specs.FieldsAt.{fieldsFrom};
 ghost use Rattle.lines.specs.Heard.{heardOf, wordsIn, idIn, bytesIn};
 
@@ -33,14 +35,14 @@ pub fn read_command(line: &[u8], at: usize, words: &mut [u16]) -> Heard
     if !w.ok {
         return Heard::Unreadable;
     }
-    let count = w.words.0;
+    let count = w.words;
     if 256 < count {
         return Heard::Unreadable;
     }
     put_words(line, end + 1, words);
     let stamp = t.stamp;
     let form = f.form;
-    let words = w.words;
+    let words = Words(count as u16);
     Heard::Command { stamp, form, words }
 }
 
@@ -84,11 +86,11 @@ pub fn read_arrive(line: &[u8], at: usize, id: &mut [u8], bytes: &mut [u8]) -> H
     if field_end(line, last) != line.len() {
         return Heard::Unreadable;
     }
-    if !is_bytes(&line[from..end], 16) || !is_bytes(&line[last..], 2047) {
+    if !is_bytes(&line[from..end], Bytes(16)) || !is_bytes(&line[last..], Bytes(2047)) {
         return Heard::Unreadable;
     }
-    let named = put_bytes(&line[from..end], 16, id);
-    let held = put_bytes(&line[last..], 2047, bytes);
+    let named = put_bytes(&line[from..end], Bytes(16), id);
+    let held = put_bytes(&line[last..], Bytes(2047), bytes);
     Heard::Arrive {
         node: n.node,
         id: named,
@@ -142,4 +144,25 @@ pub fn read_acknowledge(line: &[u8], at: usize) -> Heard
         return Heard::Unreadable;
     }
     Heard::Acknowledge(n.node, (k.value % 65536) as u16)
+}
+
+pub fn read_store(line: &[u8], at: usize) -> Heard
+    ensures { λ r. ⌜ r ≡ heardOf (storeSaid (fieldsFrom (now (line .entry)) at)) ⌝ }
+{
+    let f = read_number(line, at, 4095);
+    let k = read_number(line, f.next, 128);
+    if !f.ok || !k.ok {
+        return Heard::Unreadable;
+    }
+    let after_count = k.next;
+    if after_count <= line.len() {
+        return Heard::Unreadable;
+    }
+    let first = (f.value % 65536) as u16;
+    let count = (k.value % 65536) as u16;
+    // The numbers are within their limits, so that their sum fits.
+    if count == 0 || Words::STORE.0 < first + count {
+        return Heard::Unreadable;
+    }
+    Heard::Store(first, count)
 }

@@ -7,6 +7,7 @@ use crate::calls::read_check;
 use crate::calls::read_collect;
 use crate::calls::read_command;
 use crate::calls::read_leave;
+use crate::calls::read_store;
 use fields::field::Verb;
 use fields::field::field_end;
 use fields::field::verb_of;
@@ -19,7 +20,8 @@ ghost use Rattle.units.specs.Packing.{onto};
 ghost use Rattle.dialog.specs.Spoken.{spoken};
 ghost use Rattle.lines.specs.Heard.{heardOf, wordsIn, idIn, bytesIn};
 
-// What a line says. The words of a packet, an ID and a plaque's bytes stand in the buffers that were lent.
+// What a line says; of a look at the store, the first word and how many. The words of a packet, an ID and a plaque's bytes stand in the
+// buffers that were lent.
 pub enum Heard {
     Passed,
     Unreadable,
@@ -41,6 +43,7 @@ pub enum Heard {
     Leave(u8),
     Collect(u8, Form),
     Acknowledge(u8, u16),
+    Store(u16, u16),
 }
 
 // The longest line that is looked into.
@@ -71,6 +74,7 @@ pub fn read_line(line: &[u8], words: &mut [u16], id: &mut [u8], bytes: &mut [u8]
         Verb::Leave => read_leave(line, at),
         Verb::Collect => read_collect(line, at),
         Verb::Acknowledge => read_acknowledge(line, at),
+        Verb::Store => read_store(line, at),
         Verb::None => Heard::Unreadable,
     }
 }

@@ -1,6 +1,6 @@
 -- The call that was heard, with what stands in the buffers.
 -- Assumes nothing.
-use Prim.Native.Nat.{ℕ, _≤_}
+use Prim.Native.Nat.{ℕ, _+_, _≤_}
 use mathlib.Core.Path.{_≡_, refl, sym, ap, _∙_}
 use mathlib.Core.List.{List, _++_}
 use native.Mathlib.Omega.{arith}
@@ -13,10 +13,10 @@ use Rattle.units.specs.declared.Words.{Words}
 use Rattle.units.specs.declared.Bytes.{Bytes}
 use Rattle.units.specs.declared.stamp.Stamp.{Stamp}
 use Rattle.meaning.specs.Call.{command, arrive}
-use Rattle.dialog.specs.Spoken.{call, spoken}
+use Rattle.dialog.specs.Spoken.{call, look, spoken}
 use Rattle.lines.specs.declared.Heard.{Heard}
 use Rattle.lines.specs.Heard.{heardOf, wordsIn, idIn, bytesIn}
-use Rattle.lines.proofs.Told.{told-command, told-arrive, words-fit, id-fit, bytes-fit}
+use Rattle.lines.proofs.Told.{told-command, told-arrive, told-store, look-fits, words-fit, id-fit, bytes-fit}
 
 -- a buffer that has room for xs has them in front
 record Fronts (xs new : List ℕ) (n : ℕ) : Type 0 where
@@ -52,3 +52,7 @@ module _ (line : List ℕ) {r : Heard} (said : r ≡ heardOf (spoken line)) wher
         p .within,
         (q .within, s ∙ ap (λ (xs : List ℕ). call (arrive n xs (bytesIn (spoken line)))) (sym (p .front)) ∙ ap (λ (xs : List ℕ). call (arrive n (take (i .0) id′) xs)) (sym (q .front))),
       )
+
+  -- a look: within a store of 4,096 words, and no more words than a line has room for
+  pub store-heard : (f c : ℕ) → r ≡ Heard.Store f c → (spoken line ≡ look f c) × ((c ≤ 128) × (f + c ≤ 4096))
+  store-heard f c e = let s = told-store (spoken line) f c (sym said ∙ e) in (s, look-fits line f c s)

@@ -1,3 +1,4 @@
+pub mod Lying
 pub mod Talking
 pub mod Collecting
 pub mod Hearing

@@ -1,6 +1,7 @@
 // A line of the console, played on a machine that is known to be consistent.
 use dialogout::put_collected;
 use dialogout::put_said;
+use dialogout::put_store;
 use dialogout::put_unreadable;
 use handover::acknowledge;
 use handover::collect;
@@ -62,7 +63,7 @@ fn hand_out(
     match collect(s, form, node, store, plaques, &mut words) {
         Handout::Refused(k) => put_refused(out, to, k),
         Handout::Handed(count, number) => {
-            let n = count.0;
+            let n = count.0 as usize;
             put_collected(out, to, number, &words[..n])
         }
     }
@@ -90,7 +91,7 @@ pub fn talk(
             Played { state: s, at }
         }
         Heard::Command { stamp, form, words } => {
-            let n = words.0;
+            let n = words.0 as usize;
             told(obey(s, stamp, form, &packet[..n], store, plaques), out, to)
         }
         Heard::Check { node, stamp, clock } => told(
@@ -99,8 +100,8 @@ pub fn talk(
             to,
         ),
         Heard::Arrive { node, id, bytes } => {
-            let n = id.0;
-            let k = bytes.0;
+            let n = id.0 as usize;
+            let k = bytes.0 as usize;
             told(
                 arrive(s, node, &name[..n], &content[..k], store, plaques),
                 out,
@@ -117,5 +118,11 @@ pub fn talk(
             out,
             to,
         ),
+        Heard::Store(first, count) => {
+            let from = first as usize;
+            let end = from + count as usize;
+            let at = put_store(out, to, &store[from..end]);
+            Played { state: s, at }
+        }
     }
 }

@@ -1,10 +1,10 @@
 -- What is written so far and the replies to the lines to come are the conversation (Conversing.antt).
 -- Assumes nothing.
 use Prim.Native.Nat.{_+_, _-_}
-use mathlib.Core.Path.{_≡_, sym, _∙_}
+use mathlib.Core.Path.{_≡_, refl, sym, _∙_}
 use native.Mathlib.Omega.{arith}
 use borrow.Author.Needs.{needs}
-use lib.ListN.{length, drop}
+use lib.ListN.{length, drop, replicate}
 use Rattle.state.specs.Machine.{machine}
 use Rattle.blank.proofs.Blank.{blank-fit, blank-means}
 use Rattle.text.proofs.Writing.{put-length}
@@ -27,6 +27,9 @@ count-lines-requires c κs = search needs
 returns : tie.Need-returns Inv-loop μ-loop
 returns c = unwritten (omega (arith, c .if1 .taken, c .before .count-lines .ensures))
 
+slice-aggregate-fresh : tie.Need-slice-aggregate-fresh Inv-loop μ-loop
+slice-aggregate-fresh c = refl
+
 fresh-requires : tie.Need-fresh-requires Inv-loop μ-loop
 fresh-requires c κs = search needs
 
@@ -34,7 +37,7 @@ line-end-requires : tie.Need-line-end-requires Inv-loop μ-loop
 line-end-requires c κs = search needs
 
 loop-holds : tie.Need-loop-holds Inv-loop μ-loop
-loop-holds c = (along-start (blank-fit _ (c .before .fresh .ensures)) (blank-means _ (c .before .fresh .ensures)) (omega (arith, c .before .before .if1 .left, c .before .before .before .count-lines .ensures)), c .line-end .ensures)
+loop-holds c = (along-start (blank-fit _ (replicate 4096 0) _ refl (c .before .before .fresh .ensures)) (blank-means _ (replicate 4096 0) _ refl (c .before .before .fresh .ensures)) (omega (arith, c .before .before .before .before .if1 .left, c .before .before .before .before .before .count-lines .ensures)), c .line-end .ensures)
 
 sub-talk : tie.Need-sub-talk Inv-loop μ-loop
 sub-talk c = omega (arith, c .before .loop .inv .1)
@@ -55,7 +58,7 @@ talk-requires : tie.Need-talk-requires Inv-loop μ-loop
 talk-requires c κs = (c .before .before .before .before .before .loop .inv .0 .sound, along-room (c .before .before .before .before .before .loop .inv .0) (omega (arith, c .before .before .before .before .before .loop .inv .1, c .before .before .before .before .loop-test .taken)))
 
 add-at : tie.Need-add-at Inv-loop μ-loop
-add-at c = omega (arith, c .before .before .before .before .before .before .before .before .before .before .before .before .before .before .before .before .before .before .good .0, c .before .before .before .before .before .before .before .before .before .before .loop-test .taken)
+add-at c = omega (arith, c .before .before .before .before .before .before .before .before .before .before .before .before .before .before .before .before .before .before .before .before .good .0, c .before .before .before .before .before .before .before .before .before .before .loop-test .taken)
 
 line-end-requires-2 : tie.Need-line-end-requires-2 Inv-loop μ-loop
 line-end-requires-2 c κs = search needs
@@ -104,6 +107,7 @@ converse-spec =
     μ-loop
     count-lines-requires
     returns
+    slice-aggregate-fresh
     fresh-requires
     line-end-requires
     loop-holds

@@ -8,8 +8,8 @@ use lib.Seq.{length-take-le}
 use Rattle.dialog.specs.Spoken.{spoken}
 use Rattle.dialog.proofs.SpokenLaws.{too-long, empty, comment}
 use Rattle.fields.specs.FieldsAt.{fieldsFrom}
-use Rattle.fields.specs.declared.field.Verb.the-variants.{Command, Check, Arrive, Leave, Collect, Acknowledge, None}
-use Rattle.lines.proofs.Whole.{line-said, passed-read, unreadable-read, command-read, check-read, arrive-read, leave-read, collect-read, acknowledge-read}
+use Rattle.fields.specs.declared.field.Verb.the-variants.{Command, Check, Arrive, Leave, Collect, Acknowledge, Store, None}
+use Rattle.lines.proofs.Whole.{line-said, passed-read, unreadable-read, command-read, check-read, arrive-read, leave-read, collect-read, acknowledge-read, store-read}
 use borrow.Author.Needs.{needs}
 use Rattle.lines.proofs.read_line.Statement.{statement}
 use Rattle.lines.proofs.read_line.Tie as tie
@@ -23,6 +23,7 @@ use Rattle.lines.proofs.calls.read_check.Reads as read-check-reads
 use Rattle.lines.proofs.calls.read_collect.Reads as read-collect-reads
 use Rattle.lines.proofs.calls.read_command.Reads as read-command-reads
 use Rattle.lines.proofs.calls.read_leave.Reads as read-leave-reads
+use Rattle.lines.proofs.calls.read_store.Reads as read-store-reads
 
 returns : tie.Need-returns
 returns c =
@@ -105,6 +106,12 @@ read-acknowledge-requires c κs = search needs
 enum-told-7 : tie.Need-enum-told-7
 enum-told-7 c = search needs
 
+read-store-requires : tie.Need-read-store-requires
+read-store-requires c κs = search needs
+
+enum-told-8 : tie.Need-enum-told-8
+enum-told-8 c = search needs
+
 same-length : tie.Need-same-length
 same-length c = search needs
 
@@ -182,13 +189,24 @@ returns-9 c =
 
 returns-10 : tie.Need-returns-10
 returns-10 c =
+    let a = c .before .before .before .before .before .before .before .before .before .before .before .before .before .before .args in
+    let line = now (a .line) in
+    let w = now (a .words) in
+    let i = now (a .id) in
+    let b = now (a .bytes) in
+    let r = c .before .before .before .before .before .field-end .result in
+    let s = line-said line r (c .before .before .before .verb-of .result) Store (omega arith) (c .before .before .before .before .before .before .before .before .if2 .left) (c .before .before .before .before .before .before .if3 .left) (c .before .before .before .before .before .field-end .ensures) (c .before .before .before .verb-of .ensures) (c .before .enum-told7 .given .1) in
+    store-read w i b _ (spoken line) (fieldsFrom line (r + 1)) s (c .read-store .ensures)
+
+returns-11 : tie.Need-returns-11
+returns-11 c =
     let a = c .before .before .before .before .before .before .before .before .before .before .before .before .before .args in
     let line = now (a .line) in
     let w = now (a .words) in
     let i = now (a .id) in
     let b = now (a .bytes) in
     let r = c .before .before .before .before .field-end .result in
-    let s = line-said line r (c .before .before .verb-of .result) None (omega arith) (c .before .before .before .before .before .before .before .if2 .left) (c .before .before .before .before .before .if3 .left) (c .before .before .before .before .field-end .ensures) (c .before .before .verb-of .ensures) (c .enum-told7 .given .1) in
+    let s = line-said line r (c .before .before .verb-of .result) None (omega arith) (c .before .before .before .before .before .before .before .if2 .left) (c .before .before .before .before .before .if3 .left) (c .before .before .before .before .field-end .ensures) (c .before .before .verb-of .ensures) (c .enum-told8 .given .1) in
     unreadable-read w i b _ (spoken line) s refl
 
 pub read-line-spec : {M : Type 1} → statement M
@@ -216,6 +234,8 @@ read-line-spec =
     enum-told-6
     read-acknowledge-requires
     enum-told-7
+    read-store-requires
+    enum-told-8
     same-length
     returns-4
     returns-5
@@ -225,4 +245,5 @@ read-line-spec =
     returns-7
     returns-8
     returns-9
-    returns-10)
+    returns-10
+    returns-11)

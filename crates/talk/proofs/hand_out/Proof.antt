@@ -29,26 +29,29 @@ put-refused-requires c κs = search needs
 enum-known-count : tie.Need-enum-known-count
 enum-known-count c = search needs
 
+cast-n : tie.Need-cast-n
+cast-n c = search needs
+
 array-share-prefix-words : tie.Need-array-share-prefix-words
 array-share-prefix-words c =
-    let a = c .before .before .before .before .before .before .before .before .before .before .args in
+    let a = c .before .before .before .before .before .before .before .before .before .before .before .args in
     let m : Machine = machine (a .s) (now (a .store)) (now (a .plaques)) in
-    let h = handed-said full m (c .before .before .before .before .before .before .before .before .before .before .pre .0) (a .form) (a .node) _ _ refl (c .before .before .before .before .before .collect .ensures) _ _ (c .before .before .count .given .1) (c .before .before .before .before .before .collect .kept .1 .1 .1 .1 .1 .0) in
-    omega (arith, h .number, h .few, c .before .before .before .before .before .collect .kept .1 .1 .1 .1 .1 .0)
+    let h = handed-said full m (c .before .before .before .before .before .before .before .before .before .before .before .pre .0) (a .form) (a .node) _ _ refl (c .before .before .before .before .before .before .collect .ensures) _ _ (c .before .before .before .count .given .1) (c .before .before .before .before .before .before .collect .kept .1 .1 .1 .1 .1 .0) in
+    omega (arith, h .number, h .few, c .before .before .before .before .before .before .collect .kept .1 .1 .1 .1 .1 .0)
 
 slice-aggregate-put-collected : tie.Need-slice-aggregate-put-collected
 slice-aggregate-put-collected c =
-    let a = c .before .before .before .before .before .before .before .before .before .before .before .args in
+    let a = c .before .before .before .before .before .before .before .before .before .before .before .before .args in
     let m : Machine = machine (a .s) (now (a .store)) (now (a .plaques)) in
-    let h = handed-said full m (c .before .before .before .before .before .before .before .before .before .before .before .pre .0) (a .form) (a .node) _ _ refl (c .before .before .before .before .before .before .collect .ensures) _ _ (c .before .before .before .count .given .1) (c .before .before .before .before .before .before .collect .kept .1 .1 .1 .1 .1 .0) in
-    sym (length-take-le _ _ (omega (arith, h .number, h .few, c .before .before .before .before .before .before .collect .kept .1 .1 .1 .1 .1 .0)))
+    let h = handed-said full m (c .before .before .before .before .before .before .before .before .before .before .before .before .pre .0) (a .form) (a .node) _ _ refl (c .before .before .before .before .before .before .before .collect .ensures) _ _ (c .before .before .before .before .count .given .1) (c .before .before .before .before .before .before .before .collect .kept .1 .1 .1 .1 .1 .0) in
+    sym (length-take-le _ _ (omega (arith, h .number, h .few, c .before .before .before .before .before .before .before .collect .kept .1 .1 .1 .1 .1 .0)))
 
 put-collected-requires : tie.Need-put-collected-requires
 put-collected-requires c κs =
-    let a = c .before .before .before .before .before .before .before .before .before .before .before .args in
+    let a = c .before .before .before .before .before .before .before .before .before .before .before .before .args in
     let m : Machine = machine (a .s) (now (a .store)) (now (a .plaques)) in
-    let h = handed-said full m (c .before .before .before .before .before .before .before .before .before .before .before .pre .0) (a .form) (a .node) _ _ refl (c .before .before .before .before .before .before .collect .ensures) _ _ (c .before .before .before .count .given .1) (c .before .before .before .before .before .before .collect .kept .1 .1 .1 .1 .1 .0) in
-    (c .before .before .before .before .before .before .before .before .before .before .before .pre .1, omega (arith, ap length (h .front), h .few))
+    let h = handed-said full m (c .before .before .before .before .before .before .before .before .before .before .before .before .pre .0) (a .form) (a .node) _ _ refl (c .before .before .before .before .before .before .before .collect .ensures) _ _ (c .before .before .before .before .count .given .1) (c .before .before .before .before .before .before .before .collect .kept .1 .1 .1 .1 .1 .0) in
+    (c .before .before .before .before .before .before .before .before .before .before .before .before .pre .1, omega (arith, ap length (h .front), h .few))
 
 same-length : tie.Need-same-length
 same-length c = search needs
@@ -67,11 +70,11 @@ same-length-2 c = search needs
 returns-2 : tie.Need-returns-2
 unfolding saidLine
 returns-2 c =
-    let a = c .before .before .before .before .before .before .before .before .before .before .before .before .before .before .args in
+    let a = c .before .before .before .before .before .before .before .before .before .before .before .before .before .before .before .args in
     let m : Machine = machine (a .s) (now (a .store)) (now (a .plaques)) in
-    let h = handed-said full m (c .before .before .before .before .before .before .before .before .before .before .before .before .before .before .pre .0) (a .form) (a .node) _ _ refl (c .before .before .before .before .before .before .before .before .before .collect .ensures) _ _ (c .before .before .before .before .before .before .count .given .1) (c .before .before .before .before .before .before .before .before .before .collect .kept .1 .1 .1 .1 .1 .0) in
-    let p = put-as (ap (collectedLine (c .before .before .before .before .before .before .count .given .0 .1 .0)) (h .front)) (c .before .before .put-collected .ensures) in
-    (omega (arith, p .next, collected-short (c .before .before .before .before .before .before .count .given .0 .1 .0) (h .words) (omega arith) (h .few)), put-as (sym (ap saidLine (h .is))) p)
+    let h = handed-said full m (c .before .before .before .before .before .before .before .before .before .before .before .before .before .before .before .pre .0) (a .form) (a .node) _ _ refl (c .before .before .before .before .before .before .before .before .before .before .collect .ensures) _ _ (c .before .before .before .before .before .before .before .count .given .1) (c .before .before .before .before .before .before .before .before .before .before .collect .kept .1 .1 .1 .1 .1 .0) in
+    let p = put-as (ap (collectedLine (c .before .before .before .before .before .before .before .count .given .0 .1 .0)) (h .front)) (c .before .before .put-collected .ensures) in
+    (omega (arith, p .next, collected-short (c .before .before .before .before .before .before .before .count .given .0 .1 .0) (h .words) (omega arith) (h .few)), put-as (sym (ap saidLine (h .is))) p)
 
 pub hand-out-spec : {M : Type 1} → statement M
 hand-out-spec =
@@ -82,6 +85,7 @@ hand-out-spec =
     enum-known-k
     put-refused-requires
     enum-known-count
+    cast-n
     array-share-prefix-words
     slice-aggregate-put-collected
     put-collected-requires

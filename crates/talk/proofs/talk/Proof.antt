@@ -1,13 +1,17 @@
 use mathlib.Core.Path.{refl, sym, _∙_}
 use denote.Ref.{now}
+use Prim.Native.Nat.{_+_, _-_}
+use native.Mathlib.Omega.{arith}
+use lib.ListN.{length-take, drop}
 use lib.Seq.{length-take-le}
 use Rattle.meaning.specs.Bench.{full}
 use Rattle.state.specs.Machine.{Machine, machine}
+use Rattle.promise.proofs.Parts.{parts}
 use Rattle.dialog.specs.Spoken.{spoken}
 use Rattle.lines.proofs.Told.{told-passed, told-unreadable, told-check, told-leave, told-collect, told-acknowledge}
-use Rattle.talk.proofs.Talking.{plays-passed, plays-unreadable, plays-call, plays-told}
+use Rattle.talk.proofs.Talking.{plays-passed, plays-unreadable, plays-look, plays-call, plays-told}
 use Rattle.talk.proofs.Collecting.{collect-does}
-use Rattle.talk.proofs.Hearing.{command-heard, arrive-heard}
+use Rattle.talk.proofs.Hearing.{command-heard, arrive-heard, store-heard}
 use borrow.Author.Needs.{needs}
 use Rattle.talk.proofs.talk.Statement.{statement}
 use Rattle.talk.proofs.talk.Tie as tie
@@ -36,23 +40,26 @@ put-unreadable-requires c κs = search needs
 enum-known-stamp : tie.Need-enum-known-stamp
 enum-known-stamp c = search needs
 
+cast-n : tie.Need-cast-n
+cast-n c = search needs
+
 array-share-prefix-packet : tie.Need-array-share-prefix-packet
 array-share-prefix-packet c =
-    let r = c .before .before .before .before .before .before .read-line in
-    let h = command-heard (now (c .before .before .before .before .before .before .before .before .before .before .before .before .before .before .args .line)) (r .ensures .0) _ _ (c .before .stamp .given .1) refl (r .ensures .1 .0) in
+    let r = c .before .before .before .before .before .before .before .read-line in
+    let h = command-heard (now (c .before .before .before .before .before .before .before .before .before .before .before .before .before .before .before .args .line)) (r .ensures .0) _ _ (c .before .before .stamp .given .1) refl (r .ensures .1 .0) in
     h .0
 
 slice-aggregate-obey : tie.Need-slice-aggregate-obey
 slice-aggregate-obey c =
-    let r = c .before .before .before .before .before .before .before .read-line in
-    let h = command-heard (now (c .before .before .before .before .before .before .before .before .before .before .before .before .before .before .before .args .line)) (r .ensures .0) _ _ (c .before .before .stamp .given .1) refl (r .ensures .1 .0) in
+    let r = c .before .before .before .before .before .before .before .before .read-line in
+    let h = command-heard (now (c .before .before .before .before .before .before .before .before .before .before .before .before .before .before .before .before .args .line)) (r .ensures .0) _ _ (c .before .before .before .stamp .given .1) refl (r .ensures .1 .0) in
     sym (length-take-le _ _ (h .0))
 
 obey-requires : tie.Need-obey-requires
 obey-requires c κs = search needs
 
 told-requires : tie.Need-told-requires
-told-requires c κs = c .before .before .before .before .before .before .before .before .before .before .before .before .before .before .before .before .before .before .before .before .before .before .before .pre .1
+told-requires c κs = c .before .before .before .before .before .before .before .before .before .before .before .before .before .before .before .before .before .before .before .before .before .before .before .before .pre .1
 
 enum-known-node : tie.Need-enum-known-node
 enum-known-node c = search needs
@@ -66,35 +73,41 @@ told-requires-2 c κs = c .before .before .before .before .before .before .befor
 enum-known-node-2 : tie.Need-enum-known-node-2
 enum-known-node-2 c = search needs
 
+cast-n-2 : tie.Need-cast-n-2
+cast-n-2 c = search needs
+
+cast-k : tie.Need-cast-k
+cast-k c = search needs
+
 array-share-prefix-name : tie.Need-array-share-prefix-name
 array-share-prefix-name c =
-    let r = c .before .before .before .before .before .before .read-line in
-    let h = arrive-heard (now (c .before .before .before .before .before .before .before .before .before .before .before .before .before .before .args .line)) (r .ensures .0) _ _ _ _ (c .before .node2 .given .1) refl refl (r .ensures .1 .1 .0) (r .ensures .1 .1 .1) in
+    let r = c .before .before .before .before .before .before .before .before .read-line in
+    let h = arrive-heard (now (c .before .before .before .before .before .before .before .before .before .before .before .before .before .before .before .before .args .line)) (r .ensures .0) _ _ _ _ (c .before .before .before .node2 .given .1) refl refl (r .ensures .1 .1 .0) (r .ensures .1 .1 .1) in
     h .0
 
 slice-aggregate-arrive : tie.Need-slice-aggregate-arrive
 slice-aggregate-arrive c =
-    let r = c .before .before .before .before .before .before .before .read-line in
-    let h = arrive-heard (now (c .before .before .before .before .before .before .before .before .before .before .before .before .before .before .before .args .line)) (r .ensures .0) _ _ _ _ (c .before .before .node2 .given .1) refl refl (r .ensures .1 .1 .0) (r .ensures .1 .1 .1) in
+    let r = c .before .before .before .before .before .before .before .before .before .read-line in
+    let h = arrive-heard (now (c .before .before .before .before .before .before .before .before .before .before .before .before .before .before .before .before .before .args .line)) (r .ensures .0) _ _ _ _ (c .before .before .before .before .node2 .given .1) refl refl (r .ensures .1 .1 .0) (r .ensures .1 .1 .1) in
     sym (length-take-le _ _ (h .0))
 
 array-share-prefix-content : tie.Need-array-share-prefix-content
 array-share-prefix-content c =
-    let r = c .before .before .before .before .before .before .before .read-line in
-    let h = arrive-heard (now (c .before .before .before .before .before .before .before .before .before .before .before .before .before .before .before .args .line)) (r .ensures .0) _ _ _ _ (c .before .before .node2 .given .1) refl refl (r .ensures .1 .1 .0) (r .ensures .1 .1 .1) in
+    let r = c .before .before .before .before .before .before .before .before .before .read-line in
+    let h = arrive-heard (now (c .before .before .before .before .before .before .before .before .before .before .before .before .before .before .before .before .before .args .line)) (r .ensures .0) _ _ _ _ (c .before .before .before .before .node2 .given .1) refl refl (r .ensures .1 .1 .0) (r .ensures .1 .1 .1) in
     h .1 .0
 
 slice-aggregate-arrive-2 : tie.Need-slice-aggregate-arrive-2
 slice-aggregate-arrive-2 c =
-    let r = c .before .before .before .before .before .before .before .before .read-line in
-    let h = arrive-heard (now (c .before .before .before .before .before .before .before .before .before .before .before .before .before .before .before .before .args .line)) (r .ensures .0) _ _ _ _ (c .before .before .before .node2 .given .1) refl refl (r .ensures .1 .1 .0) (r .ensures .1 .1 .1) in
+    let r = c .before .before .before .before .before .before .before .before .before .before .read-line in
+    let h = arrive-heard (now (c .before .before .before .before .before .before .before .before .before .before .before .before .before .before .before .before .before .before .args .line)) (r .ensures .0) _ _ _ _ (c .before .before .before .before .before .node2 .given .1) refl refl (r .ensures .1 .1 .0) (r .ensures .1 .1 .1) in
     sym (length-take-le _ _ (h .1 .0))
 
 arrive-requires : tie.Need-arrive-requires
 arrive-requires c κs = search needs
 
 told-requires-3 : tie.Need-told-requires-3
-told-requires-3 c κs = c .before .before .before .before .before .before .before .before .before .before .before .before .before .before .before .before .before .before .before .before .before .before .pre .1
+told-requires-3 c κs = c .before .before .before .before .before .before .before .before .before .before .before .before .before .before .before .before .before .before .before .before .before .before .before .before .pre .1
 
 enum-known-node-3 : tie.Need-enum-known-node-3
 enum-known-node-3 c = search needs
@@ -118,7 +131,41 @@ acknowledge-requires : tie.Need-acknowledge-requires
 acknowledge-requires c κs = search needs
 
 told-requires-5 : tie.Need-told-requires-5
-told-requires-5 c κs = search needs
+told-requires-5 c κs = c .before .before .before .before .before .before .before .before .before .before .before .before .before .before .before .before .before .before .before .before .pre .1
+
+enum-known-first : tie.Need-enum-known-first
+enum-known-first c = search needs
+
+cast-from : tie.Need-cast-from
+cast-from c = search needs
+
+cast-end : tie.Need-cast-end
+cast-end c = search needs
+
+add-end : tie.Need-add-end
+add-end c = search needs
+
+mul-put-store : tie.Need-mul-put-store
+mul-put-store c = search needs
+
+sub-put-store : tie.Need-sub-put-store
+sub-put-store c = search needs
+
+part-put-store-start : tie.Need-part-put-store-start
+part-put-store-start c = search needs
+
+part-put-store-end : tie.Need-part-put-store-end
+part-put-store-end c =
+    let a = c .before .before .before .before .before .before .before .before .before .before .before .before .before .before .before .before .args in
+    let h = store-heard (now (a .line)) (c .before .before .before .before .before .before .before .before .read-line .ensures .0) (c .before .before .before .first .given .0 .0) (c .before .before .before .first .given .0 .1 .0) (c .before .before .before .first .given .1) in
+    omega (arith, h .1 .1, parts full (machine (a .s) (now (a .store)) (now (a .plaques))) (c .before .before .before .before .before .before .before .before .before .before .before .before .before .before .before .before .pre .0) .store)
+
+put-store-requires : tie.Need-put-store-requires
+put-store-requires c κs =
+    let a = c .before .before .before .before .before .before .before .before .before .before .before .before .before .before .before .before .before .args in
+    let h = store-heard (now (a .line)) (c .before .before .before .before .before .before .before .before .before .read-line .ensures .0) (c .before .before .before .before .first .given .0 .0) (c .before .before .before .before .first .given .0 .1 .0) (c .before .before .before .before .first .given .1) in
+    let n = c .before .before .before .before .first .given .0 .1 .0 in
+    (c .before .before .before .before .before .before .before .before .before .before .before .before .before .before .before .before .before .pre .1, omega (arith, h .1 .0, length-take (c .before .before .before .before .first .given .0 .0 + n - c .before .before .before .before .first .given .0 .0) (drop (c .before .before .before .before .first .given .0 .0) (now (a .store)))))
 
 returns : tie.Need-returns
 returns c =
@@ -148,11 +195,11 @@ same-length-4 c = search needs
 
 returns-3 : tie.Need-returns-3
 returns-3 c =
-    let a = c .before .before .before .before .before .before .before .before .before .before .before .before .before .before .before .before .before .before .before .before .before .before .before .before .before .before .args in
+    let a = c .before .before .before .before .before .before .before .before .before .before .before .before .before .before .before .before .before .before .before .before .before .before .before .before .before .before .before .args in
     let m : Machine = machine (a .s) (now (a .store)) (now (a .plaques)) in
-    let r = c .before .before .before .before .before .before .before .before .before .before .before .before .before .before .before .before .before .before .read-line in
-    let h = command-heard (now (c .before .before .before .before .before .before .before .before .before .before .before .before .before .before .before .before .before .before .before .before .before .before .before .before .before .before .args .line)) (r .ensures .0) _ _ (c .before .before .before .before .before .before .before .before .before .before .before .before .before .stamp .given .1) refl (r .ensures .1 .0) in
-    plays-told full m (c .before .before .before .before .before .before .before .before .before .before .before .before .before .before .before .before .before .before .before .before .before .before .before .before .before .before .pre .0) _ (h .1) (c .before .before .before .before .before .before .before .before .obey .ensures) (c .before .before .told .ensures)
+    let r = c .before .before .before .before .before .before .before .before .before .before .before .before .before .before .before .before .before .before .before .read-line in
+    let h = command-heard (now (c .before .before .before .before .before .before .before .before .before .before .before .before .before .before .before .before .before .before .before .before .before .before .before .before .before .before .before .args .line)) (r .ensures .0) _ _ (c .before .before .before .before .before .before .before .before .before .before .before .before .before .before .stamp .given .1) refl (r .ensures .1 .0) in
+    plays-told full m (c .before .before .before .before .before .before .before .before .before .before .before .before .before .before .before .before .before .before .before .before .before .before .before .before .before .before .before .pre .0) _ (h .1) (c .before .before .before .before .before .before .before .before .obey .ensures) (c .before .before .told .ensures)
 
 same-length-5 : tie.Need-same-length-5
 same-length-5 c = search needs
@@ -181,11 +228,11 @@ same-length-10 c = search needs
 
 returns-5 : tie.Need-returns-5
 returns-5 c =
-    let a = c .before .before .before .before .before .before .before .before .before .before .before .before .before .before .before .before .before .before .before .before .before .before .before .before .before .args in
+    let a = c .before .before .before .before .before .before .before .before .before .before .before .before .before .before .before .before .before .before .before .before .before .before .before .before .before .before .before .args in
     let m : Machine = machine (a .s) (now (a .store)) (now (a .plaques)) in
-    let r = c .before .before .before .before .before .before .before .before .before .before .before .before .before .before .before .before .before .read-line in
-    let h = arrive-heard (now (c .before .before .before .before .before .before .before .before .before .before .before .before .before .before .before .before .before .before .before .before .before .before .before .before .before .args .line)) (r .ensures .0) _ _ _ _ (c .before .before .before .before .before .before .before .before .before .before .before .before .node2 .given .1) refl refl (r .ensures .1 .1 .0) (r .ensures .1 .1 .1) in
-    plays-told full m (c .before .before .before .before .before .before .before .before .before .before .before .before .before .before .before .before .before .before .before .before .before .before .before .before .before .pre .0) _ (h .1 .1) (c .before .before .before .before .before .before .arrive .ensures) (c .before .before .told3 .ensures)
+    let r = c .before .before .before .before .before .before .before .before .before .before .before .before .before .before .before .before .before .before .before .read-line in
+    let h = arrive-heard (now (c .before .before .before .before .before .before .before .before .before .before .before .before .before .before .before .before .before .before .before .before .before .before .before .before .before .before .before .args .line)) (r .ensures .0) _ _ _ _ (c .before .before .before .before .before .before .before .before .before .before .before .before .before .before .node2 .given .1) refl refl (r .ensures .1 .1 .0) (r .ensures .1 .1 .1) in
+    plays-told full m (c .before .before .before .before .before .before .before .before .before .before .before .before .before .before .before .before .before .before .before .before .before .before .before .before .before .before .before .pre .0) _ (h .1 .1) (c .before .before .before .before .before .before .arrive .ensures) (c .before .before .told3 .ensures)
 
 same-length-11 : tie.Need-same-length-11
 same-length-11 c = search needs
@@ -230,10 +277,24 @@ same-length-19 c = search needs
 
 returns-8 : tie.Need-returns-8
 returns-8 c =
-    let a = c .before .before .before .before .before .before .before .before .before .before .before .before .before .before .before .before .before .before .before .before .before .args in
+    let a = c .before .before .before .before .before .before .before .before .before .before .before .before .before .before .before .before .before .before .before .before .before .before .before .args in
     let m : Machine = machine (a .s) (now (a .store)) (now (a .plaques)) in
-    let r = c .before .before .before .before .before .before .before .before .before .before .before .before .before .read-line in
-    plays-told full m (c .before .before .before .before .before .before .before .before .before .before .before .before .before .before .before .before .before .before .before .before .before .pre .0) _ (told-acknowledge (spoken (now (a .line))) _ _ (sym (r .ensures .0) ∙ c .before .before .before .before .before .before .before .before .node5 .given .1)) (c .before .before .before .before .acknowledge .ensures) (c .before .before .told5 .ensures)
+    let r = c .before .before .before .before .before .before .before .before .before .before .before .before .before .before .before .read-line in
+    plays-told full m (c .before .before .before .before .before .before .before .before .before .before .before .before .before .before .before .before .before .before .before .before .before .before .before .pre .0) _ (told-acknowledge (spoken (now (a .line))) _ _ (sym (r .ensures .0) ∙ c .before .before .before .before .before .before .before .before .before .before .node5 .given .1)) (c .before .before .before .before .before .before .acknowledge .ensures) (c .before .before .told5 .ensures)
+
+same-length-20 : tie.Need-same-length-20
+same-length-20 c = search needs
+
+same-length-21 : tie.Need-same-length-21
+same-length-21 c = search needs
+
+returns-9 : tie.Need-returns-9
+returns-9 c =
+    let a = c .before .before .before .before .before .before .before .before .before .before .before .before .before .before .before .before .before .before .before .before .args in
+    let h = store-heard (now (a .line)) (c .before .before .before .before .before .before .before .before .before .before .before .before .read-line .ensures .0) (c .before .before .before .before .before .before .before .first .given .0 .0) (c .before .before .before .before .before .before .before .first .given .0 .1 .0) (c .before .before .before .before .before .before .before .first .given .1) in
+    let m : Machine = machine (a .s) (now (a .store)) (now (a .plaques)) in
+    let fits = c .before .before .before .before .before .before .before .before .before .before .before .before .before .before .before .before .before .before .before .before .pre .0 in
+    plays-look full m fits _ _ (h .0) (h .1 .0, omega (arith, h .1 .1, parts full m fits .store)) (c .before .before .put-store .ensures)
 
 pub talk-spec : {M : Type 1} → statement M
 talk-spec =
@@ -247,6 +308,7 @@ talk-spec =
     enum-told-2
     put-unreadable-requires
     enum-known-stamp
+    cast-n
     array-share-prefix-packet
     slice-aggregate-obey
     obey-requires
@@ -255,6 +317,8 @@ talk-spec =
     check-requires
     told-requires-2
     enum-known-node-2
+    cast-n-2
+    cast-k
     array-share-prefix-name
     slice-aggregate-arrive
     array-share-prefix-content
@@ -269,6 +333,15 @@ talk-spec =
     enum-known-node-5
     acknowledge-requires
     told-requires-5
+    enum-known-first
+    cast-from
+    cast-end
+    add-end
+    mul-put-store
+    sub-put-store
+    part-put-store-start
+    part-put-store-end
+    put-store-requires
     returns
     same-length
     returns-2
@@ -295,4 +368,7 @@ talk-spec =
     same-length-17
     same-length-18
     same-length-19
-    returns-8)
+    returns-8
+    same-length-20
+    same-length-21
+    returns-9)

@@ -1,4 +1,4 @@
--- The six tests are those of the definition, in its order.
+-- The seven tests are those of the definition, in its order.
 -- Assumes nothing.
 use mathlib.Core.Path.{sym, _∙_}
 use Rattle.units.proofs.Choice.{yes-cond, no-cond}
@@ -67,9 +67,19 @@ returns-6 : tie.Need-returns-6
 unfolding verbOf
 returns-6 c = sym (no-cond _ (sym (c .before .before .before .before .before .before .before .before .before .before .before .before .before .before .before .before .is-same .ensures) ∙ c .before .before .before .before .before .before .before .before .before .before .before .before .before .before .before .if1 .left) ∙ no-cond _ (sym (c .before .before .before .before .before .before .before .before .before .before .before .before .before .is-same2 .ensures) ∙ c .before .before .before .before .before .before .before .before .before .before .before .before .if2 .left) ∙ no-cond _ (sym (c .before .before .before .before .before .before .before .before .before .before .is-same3 .ensures) ∙ c .before .before .before .before .before .before .before .before .before .if3 .left) ∙ no-cond _ (sym (c .before .before .before .before .before .before .before .is-same4 .ensures) ∙ c .before .before .before .before .before .before .if4 .left) ∙ no-cond _ (sym (c .before .before .before .before .is-same5 .ensures) ∙ c .before .before .before .if5 .left) ∙ yes-cond _ (sym (c .before .is-same6 .ensures) ∙ c .if6 .taken))
 
+slice-aggregate-is-same-7 : tie.Need-slice-aggregate-is-same-7
+slice-aggregate-is-same-7 c = search needs
+
+is-same-requires-7 : tie.Need-is-same-requires-7
+is-same-requires-7 c κs = search needs
+
 returns-7 : tie.Need-returns-7
 unfolding verbOf
-returns-7 c = sym (no-cond _ (sym (c .before .before .before .before .before .before .before .before .before .before .before .before .before .before .before .before .is-same .ensures) ∙ c .before .before .before .before .before .before .before .before .before .before .before .before .before .before .before .if1 .left) ∙ no-cond _ (sym (c .before .before .before .before .before .before .before .before .before .before .before .before .before .is-same2 .ensures) ∙ c .before .before .before .before .before .before .before .before .before .before .before .before .if2 .left) ∙ no-cond _ (sym (c .before .before .before .before .before .before .before .before .before .before .is-same3 .ensures) ∙ c .before .before .before .before .before .before .before .before .before .if3 .left) ∙ no-cond _ (sym (c .before .before .before .before .before .before .before .is-same4 .ensures) ∙ c .before .before .before .before .before .before .if4 .left) ∙ no-cond _ (sym (c .before .before .before .before .is-same5 .ensures) ∙ c .before .before .before .if5 .left) ∙ no-cond _ (sym (c .before .is-same6 .ensures) ∙ c .if6 .left))
+returns-7 c = sym (no-cond _ (sym (c .before .before .before .before .before .before .before .before .before .before .before .before .before .before .before .before .before .before .before .is-same .ensures) ∙ c .before .before .before .before .before .before .before .before .before .before .before .before .before .before .before .before .before .before .if1 .left) ∙ no-cond _ (sym (c .before .before .before .before .before .before .before .before .before .before .before .before .before .before .before .before .is-same2 .ensures) ∙ c .before .before .before .before .before .before .before .before .before .before .before .before .before .before .before .if2 .left) ∙ no-cond _ (sym (c .before .before .before .before .before .before .before .before .before .before .before .before .before .is-same3 .ensures) ∙ c .before .before .before .before .before .before .before .before .before .before .before .before .if3 .left) ∙ no-cond _ (sym (c .before .before .before .before .before .before .before .before .before .before .is-same4 .ensures) ∙ c .before .before .before .before .before .before .before .before .before .if4 .left) ∙ no-cond _ (sym (c .before .before .before .before .before .before .before .is-same5 .ensures) ∙ c .before .before .before .before .before .before .if5 .left) ∙ no-cond _ (sym (c .before .before .before .before .is-same6 .ensures) ∙ c .before .before .before .if6 .left) ∙ yes-cond _ (sym (c .before .is-same7 .ensures) ∙ c .if7 .taken))
+
+returns-8 : tie.Need-returns-8
+unfolding verbOf
+returns-8 c = sym (no-cond _ (sym (c .before .before .before .before .before .before .before .before .before .before .before .before .before .before .before .before .before .before .before .is-same .ensures) ∙ c .before .before .before .before .before .before .before .before .before .before .before .before .before .before .before .before .before .before .if1 .left) ∙ no-cond _ (sym (c .before .before .before .before .before .before .before .before .before .before .before .before .before .before .before .before .is-same2 .ensures) ∙ c .before .before .before .before .before .before .before .before .before .before .before .before .before .before .before .if2 .left) ∙ no-cond _ (sym (c .before .before .before .before .before .before .before .before .before .before .before .before .before .is-same3 .ensures) ∙ c .before .before .before .before .before .before .before .before .before .before .before .before .if3 .left) ∙ no-cond _ (sym (c .before .before .before .before .before .before .before .before .before .before .is-same4 .ensures) ∙ c .before .before .before .before .before .before .before .before .before .if4 .left) ∙ no-cond _ (sym (c .before .before .before .before .before .before .before .is-same5 .ensures) ∙ c .before .before .before .before .before .before .if5 .left) ∙ no-cond _ (sym (c .before .before .before .before .is-same6 .ensures) ∙ c .before .before .before .if6 .left) ∙ no-cond _ (sym (c .before .is-same7 .ensures) ∙ c .if7 .left))
 
 pub verb-of-spec : {M : Type 1} → statement M
 verb-of-spec =
@@ -93,4 +103,7 @@ verb-of-spec =
     slice-aggregate-is-same-6
     is-same-requires-6
     returns-6
-    returns-7)
+    slice-aggregate-is-same-7
+    is-same-requires-7
+    returns-7
+    returns-8)

@@ -25,26 +25,29 @@ returns c = sym (bytes-dash _ (now (c .before .before .before .before .args .fie
 returns-2 : tie.Need-returns-2
 returns-2 c =
     sym (nowise _ (λ e.
-    let b = of-bytes (c .before .before .before .before .before .args .most) (now (c .before .before .before .before .before .args .field)) (sym (c .before .before .is-same .ensures) ∙ c .before .if1 .left) e in
+    let b = of-bytes (c .before .before .before .before .before .args .most .0) (now (c .before .before .before .before .before .args .field)) (sym (c .before .before .is-same .ensures) ∙ c .before .if1 .left) e in
     omega arith))
 
 returns-3 : tie.Need-returns-3
 returns-3 c =
     sym (nowise _ (λ e.
-    let b = of-bytes (c .before .before .before .before .before .before .args .most) (now (c .before .before .before .before .before .before .args .field)) (sym (c .before .before .before .is-same .ensures) ∙ c .before .before .if1 .left) e in
+    let b = of-bytes (c .before .before .before .before .before .before .args .most .0) (now (c .before .before .before .before .before .before .args .field)) (sym (c .before .before .before .is-same .ensures) ∙ c .before .before .if1 .left) e in
     c .if3 .taken (b .even)))
+
+cast-if4 : tie.Need-cast-if4
+cast-if4 c = search needs
 
 returns-4 : tie.Need-returns-4
 returns-4 c =
     sym (nowise _ (λ e.
-    let b = of-bytes (c .before .before .before .before .before .before .before .args .most) (now (c .before .before .before .before .before .before .before .args .field)) (sym (c .before .before .before .before .is-same .ensures) ∙ c .before .before .before .if1 .left) e in
+    let b = of-bytes (c .before .before .before .before .before .before .before .before .args .most .0) (now (c .before .before .before .before .before .before .before .before .args .field)) (sym (c .before .before .before .before .before .is-same .ensures) ∙ c .before .before .before .before .if1 .left) e in
     omega arith))
 
 all-hex-requires : tie.Need-all-hex-requires
 all-hex-requires c κs = search needs
 
 returns-5 : tie.Need-returns-5
-returns-5 c = c .all-hex .ensures ∙ bytes-if (c .before .before .before .before .before .before .before .before .args .most) (now (c .before .before .before .before .before .before .before .before .args .field)) (sym (c .before .before .before .before .before .is-same .ensures) ∙ c .before .before .before .before .if1 .left) (omega arith) (c .before .before .if3 .left) (omega arith)
+returns-5 c = c .all-hex .ensures ∙ bytes-if (c .before .before .before .before .before .before .before .before .before .args .most .0) (now (c .before .before .before .before .before .before .before .before .before .args .field)) (sym (c .before .before .before .before .before .before .is-same .ensures) ∙ c .before .before .before .before .before .if1 .left) (omega arith) (c .before .before .before .if3 .left) (omega arith)
 
 pub is-bytes-spec : {M : Type 1} → statement M
 is-bytes-spec =
@@ -55,6 +58,7 @@ is-bytes-spec =
     returns
     returns-2
     returns-3
+    cast-if4
     returns-4
     all-hex-requires
     returns-5)

@@ -10,6 +10,7 @@ use lib.Seq.{sets}
 use Rattle.dialog.specs.Fields.{isHex, pairs}
 use Rattle.dialog.proofs.FieldLaws.{every-is}
 use Rattle.dialog.proofs.HexLaws.{onto-sets, onto-none, sets-past, no-bytes, some-bytes, length-pairs, pairs-next, pairs-end, of-bytes}
+use borrow.Author.Needs.{needs}
 use Rattle.fields.proofs.hex.put_bytes.Statement.{statement}
 use Rattle.fields.proofs.hex.put_bytes.Tie as tie
 use Rattle.fields.proofs.hex.put_bytes.Reads as reads
@@ -18,10 +19,10 @@ use Rattle.fields.proofs.field.is_same.Reads as is-same-reads
 use Rattle.fields.proofs.hex.byte_of.Reads as byte-of-reads
 
 abbrev Inv-loop : tie.InvT-loop
-Inv-loop field most out₀ i₀ at₀ out i at = (i ≤ length out₀) × (at ≡ 2 * i) × (length out ≡ length out₀) × (sets out i (pairs (drop at field)) ≡ sets out₀ 0 (pairs field))
+Inv-loop field out₀ n i₀ at₀ out i at = (i ≤ length out₀) × (at ≡ 2 * i) × (length out ≡ length out₀) × (sets out i (pairs (drop at field)) ≡ sets out₀ 0 (pairs field))
 
 abbrev μ-loop : tie.MeasureT-loop
-μ-loop field most out₀ i₀ at₀ out i at = length out₀ - i
+μ-loop field out₀ n i₀ at₀ out i at = length out₀ - i
 
 slice-aggregate-is-same : tie.Need-slice-aggregate-is-same Inv-loop μ-loop
 slice-aggregate-is-same c = refl
@@ -34,6 +35,14 @@ returns c =
     let e = no-bytes (now (c .before .before .before .before .before .args .field)) (sym (c .before .is-same .ensures) ∙ c .if1 .taken) in
     (sym (ap length e), sym (rw e (onto-none _)))
 
+cast-n : tie.Need-cast-n Inv-loop μ-loop
+cast-n c =
+    let start = c .before .before .before .before .before in
+    let a = start .args in
+    let few : a .most .0 ≤ 65535 = search needs in
+    let b = of-bytes (a .most .0) (now (a .field)) (sym (c .before .is-same .ensures) ∙ c .if1 .left) (start .pre) in
+    omega arith
+
 loop-holds : tie.Need-loop-holds Inv-loop μ-loop
 loop-holds c = (omega arith, omega arith, refl, refl)
 
@@ -44,7 +53,7 @@ returns-2 : tie.Need-returns-2 Inv-loop μ-loop
 returns-2 c =
     let f = now (c .before .before .before .before .before .before .before .before .args .field) in
     let d = sym (c .before .before .before .before .is-same .ensures) ∙ c .before .before .before .if1 .left in
-    let b = of-bytes (c .before .before .before .before .before .before .before .before .args .most) f d (c .before .before .before .before .before .before .before .before .pre) in
+    let b = of-bytes (c .before .before .before .before .before .before .before .before .args .most .0) f d (c .before .before .before .before .before .before .before .before .pre) in
     (sym (ap length (some-bytes f d) ∙ length-pairs f), sym (ap (sets _ (c .before .before .loop .i)) (pairs-end f (c .before .before .loop .at) (omega arith))) ∙ c .before .before .loop .inv .3 ∙ sym (rw (some-bytes f d) (onto-sets _ _)))
 
 shared-slice-read-byte-of : tie.Need-shared-slice-read-byte-of Inv-loop μ-loop
@@ -57,14 +66,14 @@ shared-slice-read-byte-of-2 : tie.Need-shared-slice-read-byte-of-2 Inv-loop μ-l
 shared-slice-read-byte-of-2 c =
     let f = now (c .before .before .before .before .before .before .before .before .before .before .args .field) in
     let d = sym (c .before .before .before .before .before .before .is-same .ensures) ∙ c .before .before .before .before .before .if1 .left in
-    let b = of-bytes (c .before .before .before .before .before .before .before .before .before .before .args .most) f d (c .before .before .before .before .before .before .before .before .before .before .pre) in
+    let b = of-bytes (c .before .before .before .before .before .before .before .before .before .before .args .most .0) f d (c .before .before .before .before .before .before .before .before .before .before .pre) in
     omega arith
 
 byte-of-requires : tie.Need-byte-of-requires Inv-loop μ-loop
 byte-of-requires c κs =
     let f = now (c .before .before .before .before .before .before .before .before .before .before .args .field) in
     let d = sym (c .before .before .before .before .before .before .is-same .ensures) ∙ c .before .before .before .before .before .if1 .left in
-    let b = of-bytes (c .before .before .before .before .before .before .before .before .before .before .args .most) f d (c .before .before .before .before .before .before .before .before .before .before .pre) in
+    let b = of-bytes (c .before .before .before .before .before .before .before .before .before .before .args .most .0) f d (c .before .before .before .before .before .before .before .before .before .before .pre) in
     (every-is isHex f 0 (b .digits) (c .before .before .before .before .loop .at) (omega arith), every-is isHex f 0 (b .digits) (c .before .before .before .before .loop .at + 1) (omega arith))
 
 slice-write-out : tie.Need-slice-write-out Inv-loop μ-loop
@@ -77,7 +86,7 @@ add-at : tie.Need-add-at Inv-loop μ-loop
 add-at c =
     let f = now (c .before .before .before .before .before .before .before .before .before .before .before .args .field) in
     let d = sym (c .before .before .before .before .before .before .before .is-same .ensures) ∙ c .before .before .before .before .before .before .if1 .left in
-    let b = of-bytes (c .before .before .before .before .before .before .before .before .before .before .before .args .most) f d (c .before .before .before .before .before .before .before .before .before .before .before .pre) in
+    let b = of-bytes (c .before .before .before .before .before .before .before .before .before .before .before .args .most .0) f d (c .before .before .before .before .before .before .before .before .before .before .before .pre) in
     omega arith
 
 loop-less : tie.Need-loop-less Inv-loop μ-loop
@@ -87,7 +96,7 @@ loop-again : tie.Need-loop-again Inv-loop μ-loop
 loop-again c =
     let f = now (c .before .before .before .before .before .before .before .before .before .before .before .args .field) in
     let d = sym (c .before .before .before .before .before .before .before .is-same .ensures) ∙ c .before .before .before .before .before .before .if1 .left in
-    let b = of-bytes (c .before .before .before .before .before .before .before .before .before .before .before .args .most) f d (c .before .before .before .before .before .before .before .before .before .before .before .pre) in (
+    let b = of-bytes (c .before .before .before .before .before .before .before .before .before .before .before .args .most .0) f d (c .before .before .before .before .before .before .before .before .before .before .before .pre) in (
       omega arith,
       omega arith,
       simp length-set (c .before .before .before .before .before .loop .inv .2),
@@ -101,7 +110,7 @@ returns-3 : tie.Need-returns-3 Inv-loop μ-loop
 returns-3 c =
     let f = now (c .before .before .before .before .before .before .before .args .field) in
     let d = sym (c .before .before .before .is-same .ensures) ∙ c .before .before .if1 .left in
-    let b = of-bytes (c .before .before .before .before .before .before .before .args .most) f d (c .before .before .before .before .before .before .before .pre) in
+    let b = of-bytes (c .before .before .before .before .before .before .before .args .most .0) f d (c .before .before .before .before .before .before .before .pre) in
     (sym (ap length (some-bytes f d) ∙ length-pairs f), sym (sets-past (c .before .loop .out) (c .before .loop .i) (pairs (drop (c .before .loop .at) f)) (omega arith)) ∙ c .before .loop .inv .3 ∙ sym (rw (some-bytes f d) (onto-sets _ _)))
 
 pub put-bytes-spec : {M : Type 1} → statement M
@@ -113,6 +122,7 @@ put-bytes-spec =
     slice-aggregate-is-same
     is-same-requires
     returns
+    cast-n
     loop-holds
     same-length
     returns-2

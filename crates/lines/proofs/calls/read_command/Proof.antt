@@ -91,29 +91,32 @@ put-words-requires : tie.Need-put-words-requires
 put-words-requires c κs =
     sym (words-ok _ _ (c .before .before .before .before .count-words .ensures)) ∙ not-false _ (c .before .before .if4 .left)
 
+cast-t24 : tie.Need-cast-t24
+cast-t24 c = search needs
+
 same-length : tie.Need-same-length
 same-length c = search needs
 
 returns-5 : tie.Need-returns-5
 returns-5 c =
-    let line = now (c .before .before .before .before .before .before .before .before .before .before .before .before .before .before .before .before .before .before .before .before .before .before .args .line) in
-    let fs = fieldsFrom line (c .before .before .before .before .before .before .before .before .before .before .before .before .before .before .before .before .before .before .before .before .before .before .args .at) in
-    let t = stamp-is-at line fs 0 (c .before .before .before .before .before .before .before .before .before .before .before .before .before .before .before .before .before .before .before .before .before .before .args .at) _ refl (c .before .before .before .before .before .before .before .before .before .before .before .before .before .before .before .before .before .before .before .read-stamp .ensures) in
-    let e = field-is line fs 5 _ _ (t .rest) (c .before .before .before .before .before .before .before .before .before .before .before .before .before .before .field-end .ensures) in
-    let ok = not-false _ (c .before .before .before .before .before .before .before .before .before .before .before .before .before .before .before .before .before .if1 .left) in
-    let wok = not-false _ (c .before .before .before .before .before .before .before .if4 .left) in
-    let counted = c .before .before .before .before .before .before .before .before .before .count-words .ensures in
+    let line = now (c .before .before .before .before .before .before .before .before .before .before .before .before .before .before .before .before .before .before .before .before .before .args .line) in
+    let fs = fieldsFrom line (c .before .before .before .before .before .before .before .before .before .before .before .before .before .before .before .before .before .before .before .before .before .args .at) in
+    let t = stamp-is-at line fs 0 (c .before .before .before .before .before .before .before .before .before .before .before .before .before .before .before .before .before .before .before .before .before .args .at) _ refl (c .before .before .before .before .before .before .before .before .before .before .before .before .before .before .before .before .before .before .read-stamp .ensures) in
+    let e = field-is line fs 5 _ _ (t .rest) (c .before .before .before .before .before .before .before .before .before .before .before .before .before .field-end .ensures) in
+    let ok = not-false _ (c .before .before .before .before .before .before .before .before .before .before .before .before .before .before .before .before .if1 .left) in
+    let wok = not-false _ (c .before .before .before .before .before .before .if4 .left) in
+    let counted = c .before .before .before .before .before .before .before .before .count-words .ensures in
     let n = words-count line _ counted wok ∙ ap length (e .rest) in
     let a : IsCommand fs = record {
       stamp = sym (t .ok) ∙ ok;
-      form = ap isForm (e .is) ∙ sym (ap (λ (r : FormRead). r .ok) (c .before .before .before .before .before .before .before .before .before .before .before .before .form-of .ensures)) ∙ not-false _ (c .before .before .before .before .before .before .before .before .before .before .if3 .left);
+      form = ap isForm (e .is) ∙ sym (ap (λ (r : FormRead). r .ok) (c .before .before .before .before .before .before .before .before .before .before .before .form-of .ensures)) ∙ not-false _ (c .before .before .before .before .before .before .before .before .before .if3 .left);
       few = omega (arith, n);
       words = sym (ap (every wordOk) (e .rest)) ∙ sym (words-ok line _ counted) ∙ wok;
     } in (
       command-heard fs _ _ _ a (t .value ok)
-          (ap (λ (r : FormRead). r .form) (c .before .before .before .before .before .before .before .before .before .before .before .before .form-of .ensures) ∙ ap formOf (sym (e .is)))
+          (ap (λ (r : FormRead). r .form) (c .before .before .before .before .before .before .before .before .before .before .before .form-of .ensures) ∙ ap formOf (sym (e .is)))
           (n ∙ sym (length-map (drop 6 fs) wordOf)),
-      command-words fs _ (now (c .before .before .before .before .before .before .before .before .before .before .before .before .before .before .before .before .before .before .before .before .before .before .args .words)) a (c .before .before .before .before .put-words .ensures ∙ ap (λ (gs : List (List ℕ)). onto (map wordOf gs) (now (c .before .before .before .before .before .before .before .before .before .before .before .before .before .before .before .before .before .before .before .before .before .before .args .words))) (e .rest)),
+      command-words fs _ (now (c .before .before .before .before .before .before .before .before .before .before .before .before .before .before .before .before .before .before .before .before .before .args .words)) a (c .before .before .before .put-words .ensures ∙ ap (λ (gs : List (List ℕ)). onto (map wordOf gs) (now (c .before .before .before .before .before .before .before .before .before .before .before .before .before .before .before .before .before .before .before .before .before .args .words))) (e .rest)),
     )
 
 pub read-command-spec : {M : Type 1} → statement M
@@ -134,5 +137,6 @@ read-command-spec =
     returns-4
     add-put-words
     put-words-requires
+    cast-t24
     same-length
     returns-5)
