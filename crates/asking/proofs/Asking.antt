@@ -21,18 +21,16 @@ use Rattle.meaning.specs.Call.{Call, command, collect, acknowledge, named, Resu
 use Rattle.demands.specs.Sound.{Sound}
 use Rattle.demands.proofs.Numbers.{refused-numbers}
 use Rattle.state.specs.State.{freshNode}
-use Rattle.state.specs.Machine.{Machine, machine, meaning, nodeSlot, answerAt}
+use Rattle.state.specs.Machine.{Machine, machine, meaning, nodeSlot}
 use Rattle.state.specs.Consistent.{unfit}
 use Rattle.state.specs.declared.State.{State}
 use Rattle.state.specs.declared.node.Node.{Node}
-use Rattle.state.proofs.Formed.{answer-length}
-use Rattle.state.proofs.Starts.{pending-long}
 use Rattle.promise.specs.Obeyed.{spoken, Does, expected, replied, written, Collects}
 use Rattle.promise.specs.declared.Reply.{Reply}
 use Rattle.promise.specs.declared.Handout.{Handout}
 use Rattle.promise.proofs.Promises.{saying, by-step}
 use Rattle.promise.proofs.Steps.{collect-0}
-use Rattle.promise.proofs.Oldest.{pending-is, oldest-first, oldest-lies, shown-bare}
+use Rattle.promise.proofs.Oldest.{pending-long, takes, oldest, oldest-first, shown-bare}
 use Rattle.promise.proofs.Chains.{Stepped, stepped}
 use Rattle.text.specs.Text.{wordsLine}
 use Rattle.listing.specs.Listing.{Turn, wordsIn, handoverIn, handedOver, heard, turn}
@@ -62,13 +60,10 @@ module _ (b : Bench) (n : ℕ) (m : Machine) where
   hands h =
       let i : ℕ = nodeSlot b n in
       let x : Node = getD (m .state .nodes) i freshNode in
-      let some : 0 < x .list .count =
-      omega (arith, h .some, ap length (pending-is b m (h .sound) n i (h .node) refl x refl), pending-long (m .store) (x .list)) in
-      let p : ℕ = x .list .place in
-      let w : List ℕ = answerAt (m .store) p in
+      let some : 0 < x .answers = omega (arith, h .some, pending-long b m (h .sound) n i (h .node) refl x refl) in
+      let w : List ℕ = oldest b m (h .sound) n i (h .node) refl x refl some in
       let first = oldest-first b m (h .sound) n i (h .node) refl x refl some in
-      let lies = oldest-lies b m (h .sound) n i (h .node) refl x refl some in
-      let few : length w ≤ longest = omega (arith, answer-length (m .store) p (lies .inside), lies .most) in
+      let few : length w ≤ longest = takes b m (h .sound) n i (h .node) refl x refl some .most in
       let bare = shown-bare Register n w refl in (
         w,
         record {

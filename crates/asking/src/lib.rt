@@ -38,10 +38,10 @@ fn refused(state: State, refusal: u8) -> Asked
 }
 
 // The answer that waits at a node: collected and acknowledged.
-fn hand_over(s: State, node: u8, store: &[u16], plaques: &[u8], answer: &mut [u16]) -> Asked
+fn hand_over(s: State, node: u8, store: &mut [u16], plaques: &[u8], answer: &mut [u16]) -> Asked
     requires { ⌜ Waiting full node (machine s (now store) (now plaques)) ⌝ }
     requires { ⌜ longest ≤ length (now answer) ⌝ }
-    ensures { λ r. ⌜ Asks full (handedOver full node (meaning full (machine s (now (store .entry)) (now (plaques .entry))))) r (now (answer .exit)) (machine (r .state) (now (store .entry)) (now (plaques .entry))) ⌝ }
+    ensures { λ r. ⌜ Asks full (handedOver full node (meaning full (machine s (now (store .entry)) (now (plaques .entry))))) r (now (answer .exit)) (machine (r .state) (now (store .exit)) (now (plaques .entry))) ⌝ }
 {
     match collect(s, Form::Register, node, store, plaques, answer) {
         Handout::Refused(k) => refused(s, k),

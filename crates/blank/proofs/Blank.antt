@@ -1,12 +1,12 @@
--- A fresh state, with plaque memory and store all 0, is consistent and means a blank gateway.
+-- A fresh state, with the store that making it zeroed and plaque memory all 0, is consistent and means a blank gateway.
 -- Assumes nothing.
 use Prim.Native.Nat.{ℕ, zero, suc, _-_, _*_, min}
-use mathlib.Core.Path.{_≡_, refl, sym, ap, _∙_, fun-ext, subst}
+use mathlib.Core.Path.{_≡_, refl, ap, _∙_, fun-ext}
 use mathlib.Core.Bool.{Bool, true, false, cond}
 use mathlib.Core.List.{List, [], _∷_}
 use native.Mathlib.Omega.{arith}
 use lib.Dec.{leb}
-use lib.ListN.{take, drop, replicate, length-replicate}
+use lib.ListN.{length, take, drop, replicate, length-replicate}
 use lib.Seq.{slice}
 use borrow.Author.Tests.{leb-false, le-leb}
 use Rattle.units.proofs.Choice.{and-false}
@@ -16,6 +16,7 @@ use Rattle.state.specs.State.{freshState}
 use Rattle.state.specs.Machine.{machine, meaning, regionOf}
 use Rattle.state.specs.Consistent.{unfit}
 use Rattle.state.specs.declared.State.{State}
+use Rattle.promise.specs.Runs.{zeroStore, freshMachine}
 use Rattle.promise.proofs.Tables.{reader-range}
 use Rattle.promise.proofs.Chains.{fresh-fit, fresh-means}
 use Rattle.listing.specs.Listing.{blank}
@@ -55,15 +56,24 @@ blank-region n = go (isReader full n) refl
     go true e = slice-row 0 ((n - 1) * 1024) (n * 1024) 16384 1024 (omega (arith, reader-range full n e))
     go false e = slice-row 0 ((n - 1) * 1024) (n * 1024) 16384 0 (beyond n e)
 
-module _ (s : State) (e : s ≡ freshState) where
-  pub blank-fit : unfit full (machine s (replicate 4096 0) (replicate 16384 0)) ≡ 0
-  blank-fit =
-      subst (λ (s : State). unfit full (machine s (replicate 4096 0) (replicate 16384 0)) ≡ 0) (sym e)
-      (fresh-fit (replicate 4096 0) (replicate 16384 0) (length-replicate {A = ℕ} 4096 0) (length-replicate {A = ℕ} 16384 0))
+-- the store that the making of a fresh state leaves, where one of 4,096 words was lent
+zeroed : (old store : List ℕ) → length old ≡ 4096 → store ≡ replicate (length old) 0 → store ≡ zeroStore
+unfolding zeroStore zeros
+zeroed old store l z = z ∙ ap zeros l
 
-  pub blank-means : meaning full (machine s (replicate 4096 0) (replicate 16384 0)) ≡ blank full
+-- from what making it promises
+module _ (s : State) (old store : List ℕ) (l : length old ≡ 4096) (p : (s ≡ freshState) × (store ≡ replicate (length old) 0)) where
+  as-fresh : machine s store (replicate 16384 0) ≡ freshMachine (replicate 16384 0)
+  as-fresh =
+      ap (λ (s : State). machine s store (replicate 16384 0)) (p .0)
+      ∙ ap (λ (w : List ℕ). machine freshState w (replicate 16384 0)) (zeroed old store l (p .1))
+
+  pub blank-fit : unfit full (machine s store (replicate 16384 0)) ≡ 0
+  blank-fit = ap (unfit full) as-fresh ∙ fresh-fit (replicate 16384 0) (length-replicate {A = ℕ} 16384 0)
+
+  pub blank-means : meaning full (machine s store (replicate 16384 0)) ≡ blank full
   unfolding blank
   blank-means =
-      ap (λ (s : State). meaning full (machine s (replicate 4096 0) (replicate 16384 0))) e
-      ∙ fresh-means full (replicate 4096 0) (replicate 16384 0)
+      ap (meaning full) as-fresh
+      ∙ fresh-means full (replicate 16384 0)
       ∙ ap fresh (fun-ext blank-region)

@@ -80,11 +80,11 @@ fn hear(
 
 // A line is kept up to a byte more than the longest that is looked into, which shows that it is longer.
 fn play() {
-    let mut store = [0u16; Words::STORE.0];
-    let mut plaques = [0u8; Bytes::PLAQUES.0];
+    let mut store = [0u16; Words::STORE.0 as usize];
+    let mut plaques = [0u8; Bytes::PLAQUES.0 as usize];
     let mut line = [0u8; 4401];
     let mut piece = io::buffer();
-    let mut s = state::fresh();
+    let mut s = state::fresh(&mut store);
     let mut kept = 0;
     // It ends with the input. (So many pieces no bench will see; the count shows the prover that it ends.)
     let mut pieces: u64 = 0;

@@ -44,9 +44,10 @@ fn write_turns(file: &[u8], begun: Walk, s: State, store: &mut [u16], plaques: &
 }
 
 fn write_listing(file: &[u8]) -> bool {
-    let mut store = [0u16; Words::STORE.0];
-    let mut plaques = [0u8; Bytes::PLAQUES.0];
-    let o = open(file, state::fresh(), &store, &mut plaques);
+    let mut store = [0u16; Words::STORE.0 as usize];
+    let mut plaques = [0u8; Bytes::PLAQUES.0 as usize];
+    let fresh = state::fresh(&mut store);
+    let o = open(file, fresh, &store, &mut plaques);
     let mut line = [0u8; 15];
     if !o.fine {
         let n = put_broken(&mut line, 0);

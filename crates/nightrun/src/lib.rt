@@ -28,9 +28,10 @@ pub fn list(file: &[u8], out: &mut [u8]) -> Listed
     if out.len() < LONGEST {
         return Listed::TooShort;
     }
-    let mut store = [0u16; Words::STORE.0];
-    let mut plaques = [0u8; Bytes::PLAQUES.0];
-    let o = open(file, state::fresh(), &store, &mut plaques);
+    let mut store = [0u16; Words::STORE.0 as usize];
+    let mut plaques = [0u8; Bytes::PLAQUES.0 as usize];
+    let fresh = state::fresh(&mut store);
+    let o = open(file, fresh, &store, &mut plaques);
     if !o.fine {
         return Listed::Written(put_broken(out, 0));
     }

@@ -77,10 +77,10 @@ fn ask_at(
     requires { ⌜ length (now answer) ≡ 134 ⌝ }
     ensures { λ r. ⌜ Asks full (turned full (meaning full (machine s (now (store .entry)) (now (plaques .entry)))) (drop at (now (file .entry)))) r (now (answer .exit)) (machine (r .state) (now (store .exit)) (now (plaques .exit))) ⌝ }
 {
-    let mut words = [0u16; Words::PACKET.0];
+    let mut words = [0u16; Words::PACKET.0 as usize];
     let from = at + 5;
-    let n = size.0;
-    let end = from + size.bytes().0;
+    let n = size.0 as usize;
+    let end = from + size.bytes().0 as usize;
     pack(&file[from..end], &mut words);
     ask(s, stamp_at(file, at), &words[..n], store, plaques, answer)
 }
@@ -101,7 +101,7 @@ fn arrive_at(
 {
     let id = at + 3;
     let from = at + 11;
-    let end = from + size.0;
+    let end = from + size.0 as usize;
     let called = arrive(s, node, &file[id..from], &file[from..end], store, plaques);
     called.state
 }
@@ -134,12 +134,12 @@ fn command_turn(
     ensures { λ r. ⌜ Turned full (now (file .entry)) w (meaning full (machine s (now (store .entry)) (now (plaques .entry)))) (now (out .entry)) to (now (out .exit)) r (machine (r .state) (now (store .exit)) (now (plaques .exit))) ⌝ }
 {
     let at = w.at;
-    let mut answer = [0u16; Words::PACKET.0];
+    let mut answer = [0u16; Words::PACKET.0 as usize];
     let asked = ask_at(file, at, size, s, store, plaques, &mut answer);
-    let n = asked.words.0;
+    let n = asked.words.0 as usize;
     let next = put_reply(out, to, asked.refusal, &answer[..n]);
     let walk = Walk {
-        at: at + 5 + size.bytes().0,
+        at: at + 5 + size.bytes().0 as usize,
         left: w.left - 1,
         ended: false,
     };
@@ -207,7 +207,7 @@ fn bring(file: &[u8], count: u16, s: State, store: &[u16], plaques: &mut [u8]) -
             return broken(t);
         };
         t = arrive_at(file, at, node, length, t, store, plaques);
-        at = at + 11 + length.0;
+        at = at + 11 + length.0 as usize;
         left -= 1;
     }
     let CountRecord::Count(commands) = read_count(file, at) else {

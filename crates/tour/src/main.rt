@@ -41,7 +41,7 @@ fn ask(s: State, node: u8, packet: &[u16], store: &mut [u16], plaques: &mut [u8]
     match collect(u, Form::Framed, node, store, plaques, &mut out) {
         Handout::Refused(_) => u,
         Handout::Handed(words, number) => {
-            let n = words.0;
+            let n = words.0 as usize;
             if n <= 135 {
                 say(&out[..n]);
             }
@@ -82,7 +82,7 @@ fn show(s: State, store: &[u16], plaques: &[u8]) {
     else {
         return;
     };
-    let n = words.0;
+    let n = words.0 as usize;
     if 135 < n {
         return;
     }
@@ -95,7 +95,7 @@ fn show(s: State, store: &[u16], plaques: &[u8]) {
 
 // The last handover number, and the one that follows it.
 fn go_around(store: &mut [u16], plaques: &mut [u8]) {
-    let mut s = state::fresh();
+    let mut s = state::fresh(store);
     let mut k: u32 = 0;
     while k < 65535 {
         s = clear(s, store, plaques);
@@ -109,7 +109,8 @@ fn go_around(store: &mut [u16], plaques: &mut [u8]) {
 fn main() {
     let mut store = [0u16; 4096];
     let mut plaques = [0u8; 16384];
-    let s = visit_readers(state::fresh(), &mut store, &mut plaques);
+    let fresh = state::fresh(&mut store);
+    let s = visit_readers(fresh, &mut store, &mut plaques);
     let packet = [0x0006u16, 0xAA11, 0x0020, 0x0000, 0x0000, 0x0000];
     ask(s, 32, &packet, &mut store, &mut plaques);
     go_around(&mut store, &mut plaques);

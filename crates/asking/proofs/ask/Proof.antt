@@ -69,9 +69,13 @@ same-length-5 c = search needs
 
 returns-2 : tie.Need-returns-2
 returns-2 c =
-    let s = c .before .before .before .before .before .before .before .before .before .before .before .before .before .before .before .before .before .before .before .before .before .before in let a = s .args in let o = c .before .before .before .before .before .before .before .before .before .before .before .before .before .before .before .obey in
+    let s = c .before .before .before .before .before .before .before .before .before .before .before .before .before .before .before
+    .before .before .before .before .before .before .before .before .before in let a = s .args in let o = c .before .before .before
+    .before .before .before .before .before .before .before .before .before .before .before .before .before .before .obey in
     let m : Machine = machine (a .s) (now (a .store)) (now (a .plaques)) in
-    asks-queued full m _ (a .t) (now (a .words)) (s .pre .0) (o .result .reply) (o .ensures) (c .before .before .before .before .before .before .before .before .enum-told .given .1) _ (c .before .before .before .before .before .before .lsb .ensures) (c .before .before .hand-over .ensures)
+    asks-queued full m _ (a .t) (now (a .words)) (s .pre .0) (o .result .reply) (o .ensures) (c .before .before .before .before .before
+    .before .before .before .before .before .enum-told .given .1) _ (c .before .before .before .before .before .before .before .before
+    .lsb .ensures) (c .before .before .before .before .hand-over .ensures)
 
 same-length-6 : tie.Need-same-length-6
 same-length-6 c = search needs

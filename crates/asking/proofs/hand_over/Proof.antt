@@ -24,22 +24,31 @@ acknowledge-requires c κs = search needs
 same-length : tie.Need-same-length
 same-length c = search needs
 
+same-length-2 : tie.Need-same-length-2
+same-length-2 c = search needs
+
 returns : tie.Need-returns
 returns c =
-    let s = c .before .before .before .before .before .before .before .before .before .before .before in let a = s .args in
+    let s = c .before .before .before .before .before .before .before .before .before .before .before .before in let a = s .args in
     let m : Machine = machine (a .s) (now (a .store)) (now (a .plaques)) in
     let g = gathered full (a .node) m (s .pre .0) (s .pre .1) (c .before .before .before .before .before .before .collect .ensures) in
     absurd (never-refused full (a .node) m (g .1) (c .before .before .k .given .1))
 
-same-length-2 : tie.Need-same-length-2
-same-length-2 c = search needs
+same-length-3 : tie.Need-same-length-3
+same-length-3 c = search needs
+
+same-length-4 : tie.Need-same-length-4
+same-length-4 c = search needs
 
 returns-2 : tie.Need-returns-2
 returns-2 c =
-    let s = c .before .before .before .before .before .before .before .before .before .before .before .before in let a = s .args in
+    let s = c .before .before .before .before .before .before .before .before .before .before .before .before .before .before .before
+    .before in let a = s .args in
     let m : Machine = machine (a .s) (now (a .store)) (now (a .plaques)) in
-    let g = gathered full (a .node) m (s .pre .0) (s .pre .1) (c .before .before .before .before .before .before .before .collect .ensures) in
-    asks-handed full (a .node) m (s .pre .0) (g .1) (c .before .before .before .words .given .1) (c .before .acknowledge .ensures)
+    let g = gathered full (a .node) m (s .pre .0) (s .pre .1) (c .before .before .before .before .before .before .before .before .before
+    .before .collect .ensures) in
+    asks-handed full (a .node) m (s .pre .0) (g .1) (c .before .before .before .before .before .before .words .given .1) (c .before
+    .before .before .acknowledge .ensures)
 
 pub hand-over-spec : {M : Type 1} → statement M
 hand-over-spec =
@@ -51,6 +60,8 @@ hand-over-spec =
     enum-known-words
     acknowledge-requires
     same-length
-    returns
     same-length-2
+    returns
+    same-length-3
+    same-length-4
     returns-2)

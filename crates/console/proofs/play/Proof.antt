@@ -1,8 +1,8 @@
 use borrow.Author.Needs.{needs}
-use Prim.Native.Nat.{_-_}
-use mathlib.Core.Path.{_≡_, refl, sym, _∙_}
+use Prim.Native.Nat.{ℕ, _-_}
+use mathlib.Core.Path.{_≡_, refl, sym, ap, _∙_}
 use native.Mathlib.Omega.{arith}
-use lib.ListN.{length}
+use lib.ListN.{length, replicate, length-replicate}
 use lib.Seq.{length-take-le}
 use Rattle.blank.proofs.Blank.{blank-fit}
 use Rattle.console.proofs.Ready.{Ready, going, in-line}
@@ -19,19 +19,21 @@ abbrev μ-loop : tie.MeasureT-loop
 buffer-requires : tie.Need-buffer-requires Inv-loop μ-loop
 buffer-requires c κs = search needs
 
+slice-aggregate-fresh : tie.Need-slice-aggregate-fresh Inv-loop μ-loop
+slice-aggregate-fresh c = search needs
+
 fresh-requires : tie.Need-fresh-requires Inv-loop μ-loop
 fresh-requires c κs = search needs
 
 loop-holds : tie.Need-loop-holds Inv-loop μ-loop
 loop-holds c = (
-  sym (c .before .buffer .ensures),
+  sym (c .before .before .before .buffer .ensures),
   record {
     room = refl;
-    words = refl;
+    words = ap length (c .before .fresh .ensures .1) ∙ length-replicate {A = ℕ} 4096 0;
     bytes = refl;
     within = omega arith;
-    sound = blank-fit _
-        (c .fresh .ensures);
+    sound = blank-fit _ (replicate 4096 0) _ refl (c .before .fresh .ensures);
   },
 )
 
@@ -128,6 +130,7 @@ play-spec =
     Inv-loop
     μ-loop
     buffer-requires
+    slice-aggregate-fresh
     fresh-requires
     loop-holds
     slice-aggregate-take

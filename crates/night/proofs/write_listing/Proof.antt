@@ -4,9 +4,13 @@ use lib.Seq.{length-take-le}
 use borrow.Author.Tests.{not-false}
 use Rattle.listingout.proofs.Rooms.{commands-room, length-broken}
 use Rattle.blank.proofs.Blank.{blank-fit}
+use lib.ListN.{replicate}
 use borrow.Author.Needs.{needs}
 use Rattle.night.proofs.write_listing.Statement.{statement}
 use Rattle.night.proofs.write_listing.Tie as tie
+
+slice-aggregate-fresh : tie.Need-slice-aggregate-fresh
+slice-aggregate-fresh c = search needs
 
 fresh-requires : tie.Need-fresh-requires
 fresh-requires c κs = search needs
@@ -18,7 +22,7 @@ slice-aggregate-open-2 : tie.Need-slice-aggregate-open-2
 slice-aggregate-open-2 c = search needs
 
 open-requires : tie.Need-open-requires
-open-requires c κs = blank-fit _ (c .before .before .fresh .ensures)
+open-requires c κs = blank-fit _ (replicate 4096 0) _ refl (c .before .before .before .fresh .ensures)
 
 slice-aggregate-put-broken : tie.Need-slice-aggregate-put-broken
 slice-aggregate-put-broken c = search needs
@@ -94,6 +98,7 @@ pub write-listing-spec : {M : Type 1} → statement M
 write-listing-spec =
     tie.close
     (tie.spec
+    slice-aggregate-fresh
     fresh-requires
     slice-aggregate-open
     slice-aggregate-open-2

@@ -1,4 +1,6 @@
+use Prim.Native.Nat.{ℕ}
 use mathlib.Core.Path.{sym, _∙_}
+use lib.ListN.{replicate, length-replicate}
 use borrow.Author.Needs.{needs}
 use native.Mathlib.Omega.{arith}
 use denote.Ref.{now}
@@ -26,6 +28,9 @@ abbrev μ-loop : tie.MeasureT-loop
 returns : tie.Need-returns Inv-loop μ-loop
 returns c = not-listed (now (c .before .before .before .args .file)) (now (c .before .before .before .args .out)) (c .if1 .taken)
 
+slice-aggregate-fresh : tie.Need-slice-aggregate-fresh Inv-loop μ-loop
+slice-aggregate-fresh c = search needs
+
 fresh-requires : tie.Need-fresh-requires Inv-loop μ-loop
 fresh-requires c κs = search needs
 
@@ -36,10 +41,10 @@ slice-aggregate-open-2 : tie.Need-slice-aggregate-open-2 Inv-loop μ-loop
 slice-aggregate-open-2 c = search needs
 
 open-requires : tie.Need-open-requires Inv-loop μ-loop
-open-requires c κs = blank-fit _ (c .before .before .fresh .ensures)
+open-requires c κs = blank-fit _ (replicate 4096 0) _ (length-replicate {A = ℕ} 4096 0) (c .before .before .before .fresh .ensures)
 
 put-broken-requires : tie.Need-put-broken-requires Inv-loop μ-loop
-put-broken-requires c κs = omega (arith, c .before .before .before .before .before .before .before .before .if1 .left)
+put-broken-requires c κs = omega (arith, c .before .before .before .before .before .before .before .before .before .before .if1 .left)
 
 same-length : tie.Need-same-length Inv-loop μ-loop
 same-length c = search needs
@@ -47,10 +52,25 @@ same-length c = search needs
 returns-2 : tie.Need-returns-2 Inv-loop μ-loop
 returns-2 c =
     let put = c .before .before .put-broken .ensures in
-    listed (now (c .before .before .before .before .before .before .before .before .before .before .before .before .before .before .args .file)) (now (c .before .before .before .before .before .before .before .before .before .before .before .before .before .before .args .out)) _ _ (c .before .before .before .before .before .before .before .before .before .before .before .if1 .left) (put-as (listing-broken (blank-means _ (c .before .before .before .before .before .before .before .before .before .before .fresh .ensures)) (c .before .before .before .before .before .before .before .«open» .ensures) (not-true _ (c .before .before .before .before .if2 .taken))) put) (omega (arith, put .next, length-broken, c .before .before .before .before .before .before .before .before .before .before .before .if1 .left))
+    listed (now (c .before .before .before .before .before .before .before .before .before .before .before .before .before .before .before
+    .before .args .file)) (now (c .before .before .before .before .before .before .before .before .before .before .before .before .before
+    .before .before .before .args .out)) _ _ (c .before .before .before .before .before .before .before .before .before .before .before
+    .before .before .if1 .left) (put-as (listing-broken (blank-means _ (replicate 4096 0) _ (length-replicate {A = ℕ} 4096 0) (c .before .before .before .before .before .before .before .before
+    .before .before .before .fresh .ensures)) (c .before .before .before .before .before .before .before .«open» .ensures) (not-true _ (c
+    .before .before .before .before .if2 .taken))) put) (omega (
+      arith,
+      put .next,
+      length-broken,
+      c .before .before .before .before .before
+          .before .before .before .before .before .before .before .before .if1 .left,
+    ))
 
 put-commands-requires : tie.Need-put-commands-requires Inv-loop μ-loop
-put-commands-requires c κs = omega (arith, c .before .before .before .before .before .before .before .before .before .before .if1 .left)
+put-commands-requires c κs = omega (
+  arith,
+  c .before .before .before .before .before .before .before .before .before .before .before
+      .before .if1 .left,
+)
 
 slice-aggregate-turn : tie.Need-slice-aggregate-turn Inv-loop μ-loop
 slice-aggregate-turn c = sym (parts full _ (c .before .before .before .before .before .before .before .before .before .before .«open» .ensures .sound) .store)
@@ -62,12 +82,35 @@ turn-requires : tie.Need-turn-requires Inv-loop μ-loop
 turn-requires c κs =
     let fine = not-false _ (c .before .before .before .before .before .before .before .before .before .if2 .left) in
     let going = c .before .before .before .before .before .before .before .before .before .before .before .before .«open» .ensures .going fine in
-    let a = along-opened (blank-means _ (c .before .before .before .before .before .before .before .before .before .before .before .before .before .before .before .fresh .ensures)) (c .before .before .before .before .before .before .before .before .before .before .before .before .«open» .ensures) fine (omega (arith, c .before .before .before .before .before .before .before .before .before .before .struct-known .given .1 .0 .1 .0)) (c .before .before .before .before .before .put-commands .ensures) in
-    ((going, a .inside, along-room a going (c .before .before .before .before .before .before .before .before .before .before .before .before .«open» .ensures .short fine) (c .before .before .before .before .before .before .before .before .before .before .before .before .before .before .before .before .if1 .left)), a .sound)
+    let a = along-opened (blank-means _ (replicate 4096 0) _ (length-replicate {A = ℕ} 4096 0) (c .before .before .before .before .before .before .before .before .before .before .before .before
+    .before .before .before .before .fresh .ensures)) (c .before .before .before .before .before .before .before .before .before .before
+    .before .before .«open» .ensures) fine (omega (
+      arith,
+      c .before .before .before .before .before .before .before .before .before
+          .before .struct-known .given .1 .0 .1 .0,
+    )) (c .before .before .before .before .before .put-commands .ensures) in (
+      (
+        going,
+        a .inside,
+        along-room a going (c .before .before .before .before .before .before .before .before .before .before .before
+            .before .«open» .ensures .short fine) (c .before .before .before .before .before .before .before .before .before .before .before
+            .before .before .before .before .before .before .before .if1 .left),
+      ),
+      a .sound,
+    )
 
 loop-holds : tie.Need-loop-holds Inv-loop μ-loop
 loop-holds c =
-    along-here (along-first (blank-means _ (c .before .before .before .before .before .before .before .before .before .before .before .before .before .before .before .before .before .before .before .before .before .fresh .ensures)) (c .before .before .before .before .before .before .before .before .before .before .before .before .before .before .before .before .before .before .«open» .ensures) (not-false _ (c .before .before .before .before .before .before .before .before .before .before .before .before .before .before .before .if2 .left)) (omega (arith, c .before .before .before .before .before .before .before .before .before .before .before .before .before .before .before .before .struct-known .given .1 .0 .1 .0)) (c .before .before .before .before .before .before .before .before .before .before .before .put-commands .ensures) (c .before .before .before .before .before .turn .ensures))
+    along-here (along-first (blank-means _ (replicate 4096 0) _ (length-replicate {A = ℕ} 4096 0) (c .before .before .before .before .before .before .before .before .before .before .before
+    .before .before .before .before .before .before .before .before .before .before .before .fresh .ensures)) (c .before .before .before
+    .before .before .before .before .before .before .before .before .before .before .before .before .before .before .before .«open»
+    .ensures) (not-false _ (c .before .before .before .before .before .before .before .before .before .before .before .before .before
+    .before .before .if2 .left)) (omega (
+      arith,
+      c .before .before .before .before .before .before .before .before .before .before .before
+          .before .before .before .before .before .struct-known .given .1 .0 .1 .0,
+    )) (c .before .before .before .before .before .before .before
+    .before .before .before .before .put-commands .ensures) (c .before .before .before .before .before .turn .ensures))
 
 slice-aggregate-turn-3 : tie.Need-slice-aggregate-turn-3 Inv-loop μ-loop
 slice-aggregate-turn-3 c = sym (parts full _ (c .before .before .before .before .loop .inv .sound) .store)
@@ -78,11 +121,36 @@ slice-aggregate-turn-4 c = sym (parts full _ (c .before .before .before .before 
 turn-requires-2 : tie.Need-turn-requires-2 Inv-loop μ-loop
 turn-requires-2 c κs =
     let a = c .before .before .before .before .before .before .loop .inv in
-    let going = not-true _ (c .before .before .before .before .if3 .taken) in
-    ((going, a .inside, along-room a going (c .before .before .before .before .before .before .before .before .before .before .before .before .before .before .before .before .before .before .before .before .before .before .before .before .before .«open» .ensures .short (not-false _ (c .before .before .before .before .before .before .before .before .before .before .before .before .before .before .before .before .before .before .before .before .before .before .if2 .left))) (omega (arith, c .before .before .before .before .before .before .before .before .before .before .before .before .before .before .before .before .before .before .before .before .before .before .before .before .before .before .before .before .before .if1 .left, put-length (c .before .before .before .before .before .before .before .before .before .before .before .before .before .before .before .before .before .before .put-commands .ensures), put-length (c .before .before .before .before .before .before .before .before .before .before .before .before .turn .ensures .line)))), a .sound)
+    let going = not-true _ (c .before .before .before .before .if3 .taken) in (
+      (
+        going,
+        a .inside,
+        along-room a going (c .before .before .before .before .before .before .before .before .before .before .before
+            .before .before .before .before .before .before .before .before .before .before .before .before .before .before .«open» .ensures
+            .short (not-false _ (c .before .before .before .before .before .before .before .before .before .before .before .before .before .before
+            .before .before .before .before .before .before .before .before .if2 .left))) (omega (
+              arith,
+              c .before .before .before .before .before
+                  .before .before .before .before .before .before .before .before .before .before .before .before .before .before .before .before
+                  .before .before .before .before .before .before .before .before .before .before .if1 .left,
+              put-length (c .before .before .before
+                  .before .before .before .before .before .before .before .before .before .before .before .before .before .before .before .put-commands
+                  .ensures),
+              put-length (c .before .before .before .before .before .before .before .before .before .before .before .before .turn
+                  .ensures .line),
+            )),
+      ),
+      a .sound,
+    )
 
 loop-less : tie.Need-loop-less Inv-loop μ-loop
-loop-less c = fuel-less (now (c .before .before .before .before .before .before .before .before .before .before .before .before .before .before .before .before .before .before .before .before .before .before .before .before .before .before .before .before .before .before .before .before .before .before .before .before .before .before .args .file)) (c .before .before .before .before .before .before .before .before .before .before .before .before .loop .w) (c .before .before .before .before .before .turn2 .result .walk) (not-true _ (c .before .before .before .before .before .before .before .before .before .before .if3 .taken)) (c .before .before .before .before .before .before .before .before .before .before .before .before .loop .inv .inside) (c .before .before .before .before .before .turn2 .ensures .on)
+loop-less c = fuel-less (now (c .before .before .before .before .before .before .before .before .before .before .before .before .before
+    .before .before .before .before .before .before .before .before .before .before .before .before .before .before .before .before
+    .before .before .before .before .before .before .before .before .before .before .before .args .file)) (c .before .before .before
+    .before .before .before .before .before .before .before .before .before .loop .w) (c .before .before .before .before .before .turn2
+    .result .walk) (not-true _ (c .before .before .before .before .before .before .before .before .before .before .if3 .taken)) (c .before
+    .before .before .before .before .before .before .before .before .before .before .before .loop .inv .inside) (c .before .before .before
+    .before .before .turn2 .ensures .on)
 
 loop-again : tie.Need-loop-again Inv-loop μ-loop
 loop-again c = along-turn (c .before .before .before .before .before .before .before .before .before .before .before .before .loop .inv) (not-true _ (c .before .before .before .before .before .before .before .before .before .before .if3 .taken)) (c .before .before .before .before .before .turn2 .ensures)
@@ -93,8 +161,35 @@ same-length-2 c = c .before .before .loop .inv .same ∙ search needs
 returns-3 : tie.Need-returns-3 Inv-loop μ-loop
 returns-3 c =
     let fine = not-false _ (c .before .before .before .before .before .before .before .before .before .before .before .before .before .before .before .before .before .before .if2 .left) in
-    let a = along-first (blank-means _ (c .before .before .before .before .before .before .before .before .before .before .before .before .before .before .before .before .before .before .before .before .before .before .before .before .fresh .ensures)) (c .before .before .before .before .before .before .before .before .before .before .before .before .before .before .before .before .before .before .before .before .before .«open» .ensures) fine (omega (arith, c .before .before .before .before .before .before .before .before .before .before .before .before .before .before .before .before .before .before .before .struct-known .given .1 .0 .1 .0)) (c .before .before .before .before .before .before .before .before .before .before .before .before .before .before .put-commands .ensures) (c .before .before .before .before .before .before .before .before .turn .ensures) in
-    listed (now (c .before .before .before .before .before .before .before .before .before .before .before .before .before .before .before .before .before .before .before .before .before .before .before .before .before .before .before .before .args .file)) (now (c .before .before .before .before .before .before .before .before .before .before .before .before .before .before .before .before .before .before .before .before .before .before .before .before .before .before .before .before .args .out)) _ _ (c .before .before .before .before .before .before .before .before .before .before .before .before .before .before .before .before .before .before .before .before .before .before .before .before .before .if1 .left) (along-whole a (along-done (c .before .before .loop .inv) (not-false _ (c .if3 .left)))) (omega (arith, along-fits (c .before .before .loop .inv) (c .before .before .before .before .before .before .before .before .before .before .before .before .before .before .before .before .before .before .before .before .before .«open» .ensures .short fine) (omega (arith, c .before .before .before .before .before .before .before .before .before .before .before .before .before .before .before .before .before .before .before .before .before .before .before .before .before .if1 .left, a .same)), a .same))
+    let a = along-first (blank-means _ (replicate 4096 0) _ (length-replicate {A = ℕ} 4096 0) (c .before .before .before .before .before .before .before .before .before .before .before .before
+    .before .before .before .before .before .before .before .before .before .before .before .before .before .fresh .ensures)) (c .before
+    .before .before .before .before .before .before .before .before .before .before .before .before .before .before .before .before
+    .before .before .before .before .«open» .ensures) fine (omega (
+      arith,
+      c .before .before .before .before .before .before .before
+          .before .before .before .before .before .before .before .before .before .before .before .before .struct-known .given .1 .0 .1 .0,
+    )) (c
+    .before .before .before .before .before .before .before .before .before .before .before .before .before .before .put-commands
+    .ensures) (c .before .before .before .before .before .before .before .before .turn .ensures) in
+    listed (now (c .before .before .before .before .before .before .before .before .before .before .before .before .before .before .before
+    .before .before .before .before .before .before .before .before .before .before .before .before .before .before .before .args .file))
+    (now (c .before .before .before .before .before .before .before .before .before .before .before .before .before .before .before
+    .before .before .before .before .before .before .before .before .before .before .before .before .before .before .before .args .out)) _
+    _ (c .before .before .before .before .before .before .before .before .before .before .before .before .before .before .before .before
+    .before .before .before .before .before .before .before .before .before .before .before .if1 .left) (along-whole a (along-done (c
+    .before .before .loop .inv) (not-false _ (c .if3 .left)))) (omega (
+      arith,
+      along-fits (c .before .before .loop .inv) (c .before .before
+          .before .before .before .before .before .before .before .before .before .before .before .before .before .before .before .before
+          .before .before .before .«open» .ensures .short fine) (omega (
+            arith,
+            c .before .before .before .before .before .before .before .before
+                .before .before .before .before .before .before .before .before .before .before .before .before .before .before .before .before
+                .before .before .before .if1 .left,
+            a .same,
+          )),
+      a .same,
+    ))
 
 pub list-spec : {M : Type 1} → statement M
 list-spec =
@@ -103,6 +198,7 @@ list-spec =
     Inv-loop
     μ-loop
     returns
+    slice-aggregate-fresh
     fresh-requires
     slice-aggregate-open
     slice-aggregate-open-2

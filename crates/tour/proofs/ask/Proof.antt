@@ -1,4 +1,4 @@
-use mathlib.Core.Path.{sym}
+use mathlib.Core.Path.{sym, _∙_}
 use lib.Seq.{length-take-le}
 use borrow.Author.Needs.{needs}
 use Rattle.tour.proofs.ask.Statement.{statement}
@@ -22,6 +22,9 @@ enum-told c = search needs
 enum-known-words : tie.Need-enum-known-words
 enum-known-words c = search needs
 
+cast-n : tie.Need-cast-n
+cast-n c = search needs
+
 array-share-prefix-out : tie.Need-array-share-prefix-out
 array-share-prefix-out c = search needs
 
@@ -44,7 +47,9 @@ returns : tie.Need-returns
 returns c = search needs
 
 same-length-3 : tie.Need-same-length-3
-same-length-3 c = search needs
+same-length-3 c = c .before .before .before .acknowledge .kept .1 .1 .1 .0 ∙ c .before .before .before .before .before .before .before
+    .before .before .before .before .before .before .before .before .before .before .before .before .before .before .command .kept .1 .1
+    .1 .1 .0
 
 same-length-4 : tie.Need-same-length-4
 same-length-4 c = search needs
@@ -62,6 +67,7 @@ ask-spec =
     collect-requires
     enum-told
     enum-known-words
+    cast-n
     array-share-prefix-out
     slice-aggregate-say
     say-requires

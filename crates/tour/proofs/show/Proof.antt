@@ -21,6 +21,9 @@ enum-told c = search needs
 returns : tie.Need-returns
 returns c = search needs
 
+cast-n : tie.Need-cast-n
+cast-n c = search needs
+
 returns-2 : tie.Need-returns-2
 returns-2 c = search needs
 
@@ -60,6 +63,7 @@ show-spec =
     enum-known-words
     enum-told
     returns
+    cast-n
     returns-2
     slice-aggregate-put-collected
     array-share-prefix-out

@@ -17,6 +17,9 @@ add-from c =
     let p = plaque-there (now (a .file)) (a .at) (s .pre .0) in
     record { fits = omega (arith, p .inside) }
 
+cast-end : tie.Need-cast-end
+cast-end c = search needs
+
 add-end : tie.Need-add-end
 add-end c =
     let s = c .before .before .before .before in let a = s .args in
@@ -64,6 +67,7 @@ arrive-at-spec =
     (tie.spec
     add-id
     add-from
+    cast-end
     add-end
     sub-arrive
     part-arrive-start

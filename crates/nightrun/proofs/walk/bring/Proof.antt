@@ -73,6 +73,9 @@ add-at c =
     let r = plaque-read full bs (sym (c .before .before .before .before .before .node .given .1) ∙ c .before .before .before .before .before .before .before .read-plaque .ensures) in
     record { fits = omega (arith, r .facts .there, r .facts .low, length-drop (l .at) file) }
 
+cast-at : tie.Need-cast-at Inv-loop μ-loop
+cast-at c = search needs
+
 add-at-2 : tie.Need-add-at-2 Inv-loop μ-loop
 add-at-2 c =
     let s = c .before .before .before .before .before .before .before .before .before .before .before .before .before .before in let a = s .args in
@@ -128,15 +131,8 @@ returns-2 c =
     let bs : List ℕ = drop (l .at) file in
     stands-as (sym (l .inv .3)) (stands-broken (count-off full g bs (l .left) (omega arith) (count-unread bs (sym (c .before .enum-told2 .given .1) ∙ c .before .before .before .read-count .ensures))) (l .inv .2) _ (c .broken2 .ensures))
 
-add-t19 : tie.Need-add-t19 Inv-loop μ-loop
-add-t19 c =
-    let s = c .before .before .before .before .before .before .before .before .before in let a = s .args in
-    let l = c .before .before .before .before .before .loop in
-    let file : List ℕ = now (a .file) in
-    let g = meaning full (machine (l .t) (now (a .store)) (l .plaques)) in
-    let bs : List ℕ = drop (l .at) file in
-    let r = count-read bs (sym (c .before .commands .given .1) ∙ c .before .before .before .read-count .ensures) in
-    record { fits = omega (arith, count-inside file (l .at) (r .whole)) }
+add-t20 : tie.Need-add-t20 Inv-loop μ-loop
+add-t20 c = search needs
 
 same-length-3 : tie.Need-same-length-3 Inv-loop μ-loop
 same-length-3 c = c .before .before .before .before .before .loop .inv .1
@@ -166,6 +162,7 @@ bring-spec =
     returns
     arrive-at-requires
     add-at
+    cast-at
     add-at-2
     sub-left
     loop-less
@@ -176,6 +173,6 @@ bring-spec =
     broken-requires-2
     same-length-2
     returns-2
-    add-t19
+    add-t20
     same-length-3
     returns-3)
