@@ -170,6 +170,11 @@ class Gateway:
         self.pending[node].pop(0)
         self.move_on(node)
 
+    def store(self):
+        """Document 02, E8: the answers of all nodes one behind the other, and then zeros."""
+        words = [word for node in NODES for answer in self.pending[node] for word in answer]
+        return words + [0] * (4096 - len(words))
+
 
 def hexed(words):
     return ' '.join('%04X' % w for w in words)
@@ -236,6 +241,7 @@ CALLS = {
     'leave': re.compile(rb'leave ' + NUMBER),
     'collect': re.compile(rb'collect ' + NUMBER + b' ' + FORM),
     'acknowledge': re.compile(rb'acknowledge ' + NUMBER + b' ' + NUMBER),
+    'store': re.compile(rb'store ' + NUMBER + b' ' + NUMBER),
 }
 
 
@@ -264,6 +270,11 @@ def call(g, line):
         stamp = tuple(number(x, 255) for x in f[:5])
         g.command(stamp, [int(w, 16) for w in f[6].split()], f[5] == b'framed')
         return 'queued'
+    if name == 'store':
+        first, count = number(f[0], 4095), number(f[1], 128)
+        if count == 0 or first + count > 4096:
+            raise ValueError
+        return 'store ' + hexed(g.store()[first:first + count])
     node = number(f[0], 255)
     if name == 'check':
         stamp, clock = tuple(number(x, 255) for x in f[1:6]), number(f[6], 2**32 - 1)

@@ -15,6 +15,7 @@ struct maker {
     bool lower;                 /* hex digits of this line in lower case */
     uint32_t nodes;             /* the nodes this conversation favours, bit n for node n */
     uint32_t tried[READERS + 1];        /* the clock of each reader's last check, refused or not */
+    unsigned looks;             /* percent of the lines that look at the store; they show every node */
 };
 
 /* How often each kind of line comes, in parts of their sum. */
@@ -30,6 +31,7 @@ static void open_talk(struct maker *m, uint64_t seed, struct talk *t)
     m->n = 0;
     m->lower = false;
     m->nodes = 0;
+    m->looks = 0;
     memset(m->tried, 0, sizeof m->tried);
     t->used = 0;
     t->lines = 0;
@@ -317,6 +319,51 @@ static void say_acknowledge_at(struct maker *m, unsigned node, unsigned percent_
     end_line(m, whom_of_node(node));
 }
 
+/* ---- The store */
+
+static unsigned words_held(const struct maker *m)
+{
+    unsigned words = 0;
+
+    for (int i = 0; i < NODES; i++)
+        words += m->g.lists[i].held;
+    return words;
+}
+
+static void say_store(struct maker *m, unsigned first, unsigned count)
+{
+    start_line(m, "store");
+    add_number(m, first);
+    add_number(m, count);
+    end_line(m, 0);
+}
+
+/* Mostly around the words in use, at times at a limit or past it. */
+static void say_look(struct maker *m)
+{
+    static const unsigned limits[][2] = {{0, 128}, {0, 129}, {0, 0}, {4095, 1}, {4096, 1}, {4095, 2},
+                                         {3968, 128}, {3969, 128}, {65535, 1}, {0, 65536}};
+    unsigned words = words_held(m) + 16, first = rng_below(&m->r, words < 4096 ? words : 4096);
+    unsigned left = 4096 - first < 128 ? 4096 - first : 128;
+
+    if (rng_chance(&m->r, 10)) {
+        const unsigned *l = limits[rng_below(&m->r, sizeof limits / sizeof *limits)];
+
+        say_store(m, l[0], l[1]);
+    } else {
+        say_store(m, first, 1 + rng_below(&m->r, left));
+    }
+}
+
+/* All words that are in use, and those behind them. */
+static void say_whole_store(struct maker *m)
+{
+    unsigned words = words_held(m);
+
+    for (unsigned first = 0; first <= words && first < 4096 && !is_full(m->t); first += 128)
+        say_store(m, first, 128);
+}
+
 /* ---- Room */
 
 /* A read (or a search) at a reader with a plaque, or set name and get name at node 32, whose answer has
@@ -597,6 +644,10 @@ static void say_one(struct maker *m, const struct mood *w)
 {
     unsigned dice = rng_below(&m->r, sum_of(w));
 
+    if (rng_chance(&m->r, m->looks)) {
+        say_look(m);
+        return;
+    }
     if (dice < w->command)
         say_command(m, w->damage);
     else if ((dice -= w->command) < w->check)
@@ -662,9 +713,11 @@ static void talk_rooms(struct maker *m)
     say_packet(m, &d, 0);
     for (unsigned rounds = 1 + rng_below(&m->r, 3); rounds > 0; rounds--) {
         say_many(m, &fill, 20 + rng_below(&m->r, 60));
+        say_whole_store(m);
         say_many(m, &free_some, rng_below(&m->r, 30));
         say_many(m, &both, rng_below(&m->r, 60));
     }
+    say_whole_store(m);
 }
 
 /* One more answer at the node, towards exactly `upto` held words; false once it is there. */
@@ -701,8 +754,10 @@ static void talk_full(struct maker *m)
         node = pick_favourite(m);
         say_towards(m, node, held_at(&m->g, node) + room_at(&m->g, node));
     }
+    say_whole_store(m);
     m->nodes = rng_chance(&m->r, 50) ? 0x1FFFE : m->nodes;
     say_many(m, &change, 50 + rng_below(&m->r, 150));
+    say_whole_store(m);
 }
 
 static void talk_continuous(struct maker *m)
@@ -816,6 +871,7 @@ void generate_talk(uint64_t seed, struct talk *t)
     uint32_t dice;
 
     open_talk(&m, seed, t);
+    m.looks = 8;
     dice = rng_below(&m.r, 4000);
     if (seed % 5000 == 0)               /* long, so there are few of them */
         talk_handover(&m);

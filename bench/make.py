@@ -337,6 +337,49 @@ def unreadable():
     yield '# the last line has no line feed'
 
 
+def layout():
+    def whole(words):
+        yield from ('store %d %d' % (at, min(128, words - at)) for at in range(0, words, 128))
+
+    yield '# Fresh: zeros, to the last word. The words asked for end with the store, and are 1 to 128.'
+    yield from ['store 0 1', 'store 0 128', 'store 3968 128', 'store 4095 1', 'store 0000000000 0000000001']
+    yield '# No line of the table: past the store, no word, too many, one number, three, another word.'
+    yield from ['store 4096 1', 'store 4095 2', 'store 3969 128', 'store 0 0', 'store 0 129', 'store 0', 'store',
+                'store 0 1 1', 'store -1 1', 'store 0 1 ', 'stores 0 1', 'store 00000000000 1']
+    yield '# By node and not by making: 11 at node 32, then 54 at node 1, then a read at node 16, then 07 at node 2.'
+    yield say(0x11, 32)
+    yield say(0x54, 1)
+    yield arrive(16)
+    yield read(16, 8)
+    yield arrive(2)
+    yield say(7, 2, 2000)
+    yield 'store 0 32'
+    yield '# behind the last of its node: at the front, in the middle, at the end'
+    yield say(0x54, 1)
+    yield say(7, 2, 2000)
+    yield say(0x60, 32)
+    yield 'store 0 56'
+    yield '# the oldest leaves: at the front, in the middle, at the end; the freed words are 0'
+    yield from ['acknowledge 1 1', 'store 0 56', 'acknowledge 16 1', 'store 0 56', 'acknowledge 32 1', 'store 0 56']
+    yield 'acknowledge 2 2'
+    yield 'store 0 56'
+    yield '# a refusal for room changes no word: node 16 to 804, and one more'
+    yield from (read(16, 134) for _ in range(6))
+    yield search(16)
+    yield from whole(900)
+    yield '# every node an answer, the last one first'
+    yield from (arrive(n) for n in range(1, 17))
+    yield from (search(n) for n in range(15, 0, -1))
+    yield from whole(1000)
+    yield '# 61 leaves zeros but for its own six words; 79 too'
+    yield say(0x61, 32)
+    yield from whole(1000)
+    yield search(9)
+    yield say(0x79, 32)
+    yield 'store 0 14'
+    yield 'store 4032 64'
+
+
 def conversation(lines, last=''):
     return ''.join(line + '\n' for line in lines).encode('latin-1') + last.encode()
 
@@ -367,7 +410,8 @@ def cleared(text):
 def all_talks():
     """All conversations as one, for the gate."""
     text = conversation(EXAMPLE_TALK)
-    for name, story in [('rooms', rooms), ('reader seven', seven), ('wraps', wraps), ('unreadable lines', unreadable)]:
+    for name, story in [('rooms', rooms), ('reader seven', seven), ('wraps', wraps), ('the store', layout),
+                        ('unreadable lines', unreadable)]:
         text = cleared(text + conversation(['', '# ---- ' + name]))
         text += conversation(later(story(), check.talk(text)[0].number))
     return text + b'collect 2 register'
@@ -398,7 +442,7 @@ def make_files(folder):
 
 def make_talks(folder):
     talks = {'example': conversation(EXAMPLE_TALK), 'rooms': conversation(rooms()), 'seven': conversation(seven()),
-             'wraps': conversation(wraps()), 'unreadable': conversation(unreadable(), 'collect 2 register')}
+             'wraps': conversation(wraps()), 'store': conversation(layout()), 'unreadable': conversation(unreadable(), 'collect 2 register')}
     for name, content in talks.items():
         (TALKS / (name + '.in')).write_bytes(content)
         (TALKS / (name + '.out')).write_bytes(played(folder, 'plain-console', content))

@@ -2,7 +2,7 @@
 
 #include <string.h>
 
-enum { PACKET_WORDS = 256, ID_MAX = 16, BYTES_MAX = 2047, DIGITS_MAX = 10 };
+enum { PACKET_WORDS = 256, ID_MAX = 16, BYTES_MAX = 2047, DIGITS_MAX = 10, SHOWN_MAX = 128 };
 
 /* What is left of a line. Each field but the first stands behind exactly one blank. */
 struct line {
@@ -152,7 +152,7 @@ static void say_collected(struct text *t, unsigned handover, const uint16_t *w, 
     text_byte(t, '\n');
 }
 
-/* ---- The six calls; each is false if its line is none */
+/* ---- The six calls, and a look at the store; each is false if its line is none */
 
 static bool play_command(struct gateway *g, struct line *l, struct text *t)
 {
@@ -230,6 +230,22 @@ static bool play_acknowledge(struct gateway *g, struct line *l, struct text *t)
     return true;
 }
 
+/* Document 02, E8: "FIRST and FIRST + COUNT within the store, COUNT 1 to 128" */
+static bool play_store(const struct gateway *g, struct line *l, struct text *t)
+{
+    uint16_t w[SHOWN_MAX];
+    uint32_t first, count;
+
+    if (!number(l, STORE_WORDS - 1, &first) || !number(l, SHOWN_MAX, &count) || !ended(l)
+        || count == 0 || first + count > STORE_WORDS)
+        return false;
+    gateway_store(g, first, count, w);
+    text_string(t, "store ");
+    text_words(t, w, count);
+    text_byte(t, '\n');
+    return true;
+}
+
 static bool play_call(struct gateway *g, struct line *l, struct text *t)
 {
     if (word(l, "command"))
@@ -242,6 +258,8 @@ static bool play_call(struct gateway *g, struct line *l, struct text *t)
         return play_leave(g, l, t);
     if (word(l, "collect"))
         return play_collect(g, l, t);
+    if (word(l, "store"))
+        return play_store(g, l, t);
     return word(l, "acknowledge") && play_acknowledge(g, l, t);
 }
 

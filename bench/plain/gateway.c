@@ -435,3 +435,16 @@ int gateway_acknowledge(struct gateway *g, unsigned node, unsigned number)
     move_on(l);
     return DONE;
 }
+
+/* "node 1's from the front, oldest first, then node 2's, to 16, then 32's, with no gaps .. Words after
+   the last answer are 0" */
+void gateway_store(const struct gateway *g, size_t first, size_t count, uint16_t *out)
+{
+    size_t at = 0;
+
+    memset(out, 0, count * sizeof *out);
+    for (const struct list *l = g->lists; l < g->lists + NODES; l++)
+        for (size_t k = 0; k < l->held; k++, at++)
+            if (at >= first && at < first + count)
+                out[at - first] = l->ring[(l->first + k) % HELD_MAX];
+}

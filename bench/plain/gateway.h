@@ -90,6 +90,9 @@ int gateway_collect(const struct gateway *g, unsigned node, enum form form, uint
                     size_t room, size_t *words, unsigned *number);
 int gateway_acknowledge(struct gateway *g, unsigned node, unsigned number);
 
+/* Words of the answer store as document 02, E8, lays it out. */
+void gateway_store(const struct gateway *g, size_t first, size_t count, uint16_t *out);
+
 /* The place of a node's list, or -1 for a node that is not allowed. */
 int gateway_list_of(unsigned node);
 
