@@ -380,6 +380,49 @@ def layout():
     yield 'store 4032 64'
 
 
+def pairs():
+    def rising(size):
+        """So many bytes, no two neighbours alike, the odd last word filled with 00."""
+        return ''.join('%02X' % (k % 255 + 1) for k in range(size)) + '00' * (size % 2)
+
+    def handed(node, answers, first):
+        for k in range(answers):
+            yield 'collect %d framed' % node
+            yield 'acknowledge %d %d' % (node, first + k)
+
+    yield '# A plaque of 258 bytes, all 07. What is written is read back, with the byte before it and the one behind.'
+    yield 'arrive 5 E004010000000005 ' + '07' * 258
+    number = 1
+    for size in 1, 2, 3, 4, 5, 253:
+        for start in 1, 2:
+            yield '# %d bytes from %d on' % (size, start)
+            yield say(4, 5, 2000, 0, 258, '0700')
+            yield say(6, 5, 2000, start, size, rising(size))
+            yield say(5, 5, 2000, start - 1, size + 2)
+            yield from handed(5, 3, number)
+            number += 3
+    yield '# 254 and 255 bytes, at either end of the plaque'
+    for size in 254, 255:
+        for start in 0, 258 - size:
+            yield say(4, 5, 2000, 0, 258, '0700')
+            yield say(6, 5, 2000, start, size, rising(size))
+            yield say(5, 5, 2000, 0, size)
+            yield say(5, 5, 2000, 258 - size, size)
+            yield from handed(5, 4, number)
+            number += 4
+    yield '# Names: what was behind a longer one is not heard again.'
+    number = 1
+    for size in 64, 63, 1, 2, 3:
+        yield say(0x21, 32, 0, 0, size, rising(size))
+        yield say(0x11, 32)
+        yield from handed(32, 2, number)
+        number += 2
+    yield '# A report of an odd number of bytes.'
+    yield say(0x0D, 5, 0, 1, 3)
+    yield 'check 5 3 19 10 11 36 0'
+    yield 'collect 5 register'
+
+
 def conversation(lines, last=''):
     return ''.join(line + '\n' for line in lines).encode('latin-1') + last.encode()
 
@@ -411,7 +454,7 @@ def all_talks():
     """All conversations as one, for the gate."""
     text = conversation(EXAMPLE_TALK)
     for name, story in [('rooms', rooms), ('reader seven', seven), ('wraps', wraps), ('the store', layout),
-                        ('unreadable lines', unreadable)]:
+                        ('pairs', pairs), ('unreadable lines', unreadable)]:
         text = cleared(text + conversation(['', '# ---- ' + name]))
         text += conversation(later(story(), check.talk(text)[0].number))
     return text + b'collect 2 register'
@@ -442,7 +485,8 @@ def make_files(folder):
 
 def make_talks(folder):
     talks = {'example': conversation(EXAMPLE_TALK), 'rooms': conversation(rooms()), 'seven': conversation(seven()),
-             'wraps': conversation(wraps()), 'store': conversation(layout()), 'unreadable': conversation(unreadable(), 'collect 2 register')}
+             'wraps': conversation(wraps()), 'store': conversation(layout()), 'pairs': conversation(pairs()),
+             'unreadable': conversation(unreadable(), 'collect 2 register')}
     for name, content in talks.items():
         (TALKS / (name + '.in')).write_bytes(content)
         (TALKS / (name + '.out')).write_bytes(played(folder, 'plain-console', content))
