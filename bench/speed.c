@@ -1,4 +1,5 @@
-/* Plays the same inputs through both sides in one process and prints both times and their ratio. */
+/* Plays the same inputs through both sides in one process and prints both times and their ratio. Built with BEFORE, an earlier build of
+   ours runs with them. */
 #define _POSIX_C_SOURCE 199309L
 
 #include <stdio.h>
@@ -14,6 +15,17 @@
 enum { ROUNDS = 25, SPAN_MS = 2000, LINES = 100000 };
 
 typedef size_t play_fn(const uint8_t *in, size_t n, uint8_t *out, size_t cap);
+
+#ifdef BEFORE
+play_fn before_night, before_console;
+static play_fn *const nights[] = {plain_night, rashdumof_night, before_night};
+static play_fn *const consoles[] = {plain_console, rashdumof_console, before_console};
+#else
+static play_fn *const nights[] = {plain_night, rashdumof_night};
+static play_fn *const consoles[] = {plain_console, rashdumof_console};
+#endif
+
+enum { PLAIN, OURS, EARLIER, SIDES = sizeof nights / sizeof *nights };
 
 struct side {
     play_fn *play;
@@ -59,27 +71,31 @@ static void time_once(struct side *s, const uint8_t *in, size_t n, size_t room)
         s->best = took;
 }
 
-/* Both sides in turn, each round in the other order, for 2 seconds at least, so that the processor's clock has settled for short inputs
+/* All sides in turn, each round beginning with another, for 2 seconds at least, so that the processor's clock has settled for short inputs
    too; the best of all rounds counts. */
-static bool race(const char *what, play_fn *plain, play_fn *ours, const uint8_t *in, size_t n,
-                 size_t room)
+static bool race(const char *what, play_fn *const plays[SIDES], const uint8_t *in, size_t n, size_t room)
 {
-    struct side sides[2] = {{plain, NULL, 0, 0}, {ours, NULL, 0, 0}};
-    bool same;
+    struct side sides[SIDES] = {0};
+    bool same = true;
 
-    warm_up(&sides[0], in, n, room);
-    warm_up(&sides[1], in, n, room);
-    double began = now_ms();
-    for (int round = 0; round < ROUNDS || now_ms() - began < SPAN_MS; round++) {
-        time_once(&sides[round % 2], in, n, room);
-        time_once(&sides[1 - round % 2], in, n, room);
+    for (int i = 0; i < SIDES; i++) {
+        sides[i].play = plays[i];
+        warm_up(&sides[i], in, n, room);
     }
-    same = sides[0].written == sides[1].written
-        && memcmp(sides[0].out, sides[1].out, sides[0].written) == 0;
-    printf("%-36s plain %9.3f ms  ours %9.3f ms  ours/plain %6.2f%s\n", what, sides[0].best,
-           sides[1].best, sides[1].best / sides[0].best, same ? "" : "  (OUTPUTS DIFFER)");
-    free(sides[0].out);
-    free(sides[1].out);
+    double began = now_ms();
+    for (int round = 0; round < ROUNDS || now_ms() - began < SPAN_MS; round++)
+        for (int i = 0; i < SIDES; i++)
+            time_once(&sides[(round + i) % SIDES], in, n, room);
+    for (int i = 1; i < SIDES; i++)
+        same &= sides[i].written == sides[PLAIN].written
+            && memcmp(sides[i].out, sides[PLAIN].out, sides[PLAIN].written) == 0;
+    printf("%-30s plain %8.3f ms  ours %8.3f ms  ours/plain %5.2f", what, sides[PLAIN].best, sides[OURS].best,
+           sides[OURS].best / sides[PLAIN].best);
+    if (EARLIER < SIDES)
+        printf("  before %8.3f ms  ours/before %5.2f", sides[SIDES - 1].best, sides[OURS].best / sides[SIDES - 1].best);
+    puts(same ? "" : "  (OUTPUTS DIFFER)");
+    for (int i = 0; i < SIDES; i++)
+        free(sides[i].out);
     return same;
 }
 
@@ -91,16 +107,15 @@ int main(void)
     size_t n;
 
     n = generate_largest_file(1, DATA_MAX, file);
-    same = race("night, the largest listing", plain_night, rashdumof_night, file, n, NIGHT_LISTING_MAX);
+    same = race("night, the largest listing", nights, file, n, NIGHT_LISTING_MAX);
     n = generate_mixed_file(1, file);
-    same &= race("night, 65,536 bytes mixed", plain_night, rashdumof_night, file, n, NIGHT_LISTING_MAX);
+    same &= race("night, 65,536 bytes mixed", nights, file, n, NIGHT_LISTING_MAX);
     generate_long_talk(1, LINES, &t);
     if (t.lines != LINES) {
         fprintf(stderr, "speed: the conversation has %zu lines\n", t.lines);
         return 2;
     }
-    same &= race("console, 100,000 lines mixed", plain_console, rashdumof_console, t.text, t.used,
-                 64 * t.used + 1024);
+    same &= race("console, 100,000 lines mixed", consoles, t.text, t.used, 64 * t.used + 1024);
     free(t.text);
     free(t.whom);
     return same ? 0 : 1;
