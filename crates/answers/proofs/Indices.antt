@@ -6,19 +6,14 @@ use mathlib.Core.Bool.{Bool, true, false, cond}
 use mathlib.Core.List.{[]}
 use native.Mathlib.Omega.{arith}
 use lib.ListN.{getD}
-use borrow.Author.Tests.{ne-eqb}
-use Rattle.units.proofs.Choice.{no-cond}
-use Rattle.meaning.specs.Bench.{full, hub, isReader}
-use Rattle.state.specs.State.{freshReader, freshNode}
-use Rattle.state.specs.Machine.{Machine, meaning, nodeSlot}
+use Rattle.meaning.specs.Bench.{full, isReader}
+use Rattle.state.specs.State.{freshReader}
+use Rattle.state.specs.Machine.{Machine}
 use Rattle.state.specs.Consistent.{unfit}
 use Rattle.state.specs.declared.reader.Reader.{Reader}
-use Rattle.state.specs.declared.node.Node.{Node}
 use Rattle.state.proofs.Lists.{getD-any}
-use Rattle.state.proofs.Read.{blank}
 use Rattle.promise.proofs.Parts.{parts}
-use Rattle.promise.proofs.Tables.{reader-range, reader-node}
-use Rattle.promise.proofs.Oldest.{count-is}
+use Rattle.promise.proofs.Tables.{reader-range}
 
 -- ---- what `reader_slot` says of a node: past the array, it is no reader; inside, it is one, and this is its index
 module _ (n i : ℕ) (e : i ≡ cond (isReader full n) (n - 1) 16) where
@@ -49,11 +44,3 @@ module _ (m : Machine) (n i : ℕ) (fit : unfit full m ≡ 0) (is : isReader ful
   reader-there =
       ap (λ (k : ℕ). getD (m .state .readers) k freshReader) (sym at)
       ∙ getD-any (m .state .readers) i freshReader blankReader (omega (arith, parts full m fit .eachReader, reader-range full n is))
-
-  -- the count that its next answer bears
-  pub count-there : meaning full m .nodes n .count ≡ getD (m .state .nodes) i blank .instance
-  count-there =
-      let r = reader-range full n is in
-      let slot : nodeSlot full n ≡ i = no-cond 16 (ne-eqb n hub (λ e. absurd (omega arith))) ∙ sym at in
-      count-is full m fit n i (reader-node full n is) slot (getD (m .state .nodes) i freshNode) refl
-      ∙ ap (λ (x : Node). x .instance) (getD-any (m .state .nodes) i freshNode blank (omega (arith, parts full m fit .eachNode)))

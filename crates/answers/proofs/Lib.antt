@@ -1,4 +1,4 @@
-pub mod Made
+pub mod Saying
 pub mod Indices
 pub mod Replies
 pub mod Cuts

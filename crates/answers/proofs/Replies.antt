@@ -2,12 +2,11 @@
 -- Assumes nothing.
 use Prim.Native.Nat.{ℕ}
 use mathlib.Core.Path.{_≡_, sym, subst}
-use mathlib.Core.Bool.{Bool, false, cond}
 use mathlib.Core.List.{List}
 use borrow.Author.Tests.{eq-eqb}
 use Rattle.units.proofs.Choice.{yes-cond}
 use Rattle.meaning.specs.Bench.{Bench}
-use Rattle.meaning.specs.Call.{Call, Said, refused, Outcome, step}
+use Rattle.meaning.specs.Call.{Call, Said, Outcome, step}
 use Rattle.state.specs.Machine.{Machine, machine, meaning}
 use Rattle.state.specs.Consistent.{unfit}
 use Rattle.state.specs.declared.reader.Reader.{Reader}
@@ -36,12 +35,3 @@ module _ {b : Bench} {m : Machine} where
         → Does b o m (spoken p) (machine s store memory) → Does b o m (spoken (r .reply)) (machine (r .state) store memory)
     called {r} {p} {s} {store} {memory} e d =
         subst (λ (q : Called). Does b o m (spoken (q .reply)) (machine (q .state) store memory)) (sym e) d
-
-    -- no room
-    pub unqueued : {r : Called} {room : Bool} {s s′ : State} {store memory : List ℕ} → room ≡ false
-        → r ≡ record { reply = cond room Reply.Queued (Reply.Refused 13); state = s′ } → s′ ≡ s → Does b o m (refused 13) (machine s store memory)
-        → Does b o m (spoken (r .reply)) (machine (r .state) store memory)
-    unfolding spoken
-    unqueued {room = room} {s′ = s′} {store = store} {memory = memory} e f g d =
-        called f (subst (λ (t : Bool). Does b o m (spoken (cond t Reply.Queued (Reply.Refused 13))) (machine s′ store memory)) (sym e)
-        (subst (λ (k : State). Does b o m (refused 13) (machine k store memory)) (sym g) d))

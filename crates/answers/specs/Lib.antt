@@ -1,2 +1,3 @@
-pub mod Answerable
+pub mod Say
+pub mod Decided
 pub mod Ordered

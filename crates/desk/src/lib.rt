@@ -1,29 +1,46 @@
-// The gateway's own commands, accepted, on a machine that is known to be consistent. The answer is queued before the name changes, and
-// after the lists are emptied.
-use answers::answer;
-use answers::settled;
+// What the gateway makes of an accepted command of its own, decided on its name alone. Nothing is changed here but the lent answer; room
+// is judged, and the change made, where the call is settled.
+use answers::Verdict;
+use answers::say;
 use meaning::packet::Command;
 use meaning::packet::Response;
+use meaning::table::Kind;
 use meaning::table::OfGateway;
-use promise::Called;
-use promise::Reply;
 use state::Name;
-use state::State;
-use store::clear;
-use store::reset;
+use store::Broom;
 use units::Bytes;
+use units::Words;
 use units::packing::unpack;
 use units::stamp::Stamp;
 ghost use mathlib.Core.Path.{_≡_};
 ghost use mathlib.Core.Bool.{false};
+ghost use mathlib.Core.List.{[]};
+ghost use lib.ListN.{length, replicate};
 ghost use Rattle.meaning.specs.Bench.{full};
-ghost use Rattle.meaning.specs.declared.table.OfGateway.the-variants.{GetName, SetName, Initialise, ResetGateway, Clear};
-ghost use Rattle.state.specs.Machine.{machine, meaning};
-ghost use Rattle.answers.specs.Ordered.{loadOf};
-ghost use Rattle.promise.specs.Obeyed.{Makes};
-ghost use Rattle.desk.specs.Ruled.{governing, Ruling};
+ghost use Rattle.meaning.specs.declared.table.Kind.the-variants as K;
+ghost use Rattle.desk.specs.Ruled.{Governable, Governs};
 
-fn response(count: u8, t: Stamp, echo: u8) -> Response
+// The name as it is after the call, what becomes of all lists, and the words of the answer that is due.
+pub struct Ruled {
+    pub name: Name,
+    pub broom: Broom,
+    pub words: Words,
+    pub verdict: Verdict,
+}
+
+fn due(name: Name, broom: Broom, words: Words) -> Ruled
+    ensures { λ d. ⌜ d ≡ record { name = name; broom = broom; words = words; verdict = Verdict.Due } ⌝ }
+{
+    Ruled {
+        name,
+        broom,
+        words,
+        verdict: Verdict::Due,
+    }
+}
+
+// The answer without an error.
+fn good(count: u8, t: Stamp, echo: u8) -> Response
     ensures { λ r. ⌜ r ≡ record { error = false; echo = echo; count = count; node = 32; stamp = t } ⌝ }
 {
     Response {
@@ -35,144 +52,76 @@ fn response(count: u8, t: Stamp, echo: u8) -> Response
     }
 }
 
-// 11
-fn get_name(
-    s: State,
-    t: Stamp,
-    m: Command,
-    words: &[u16],
-    store: &mut [u16],
-    plaques: &[u8],
-) -> Called
-    requires { ⌜ Ruling full t GetName m (now words) (machine s (now store) (now plaques)) ⌝ }
-    ensures { λ r. ⌜ Makes full (governing full (meaning full (machine s (now (store .entry)) (now (plaques .entry)))) t GetName (loadOf full m (now (words .entry)))) s (now (store .entry)) (now (plaques .entry)) r (now (store .exit)) (now (plaques .entry)) ⌝ }
+fn no_name() -> Name
+    ensures { λ n. ⌜ n ≡ record { length = record { 0 = 0 }; bytes = replicate 64 0 } ⌝ }
 {
-    let own = s.nodes[16];
-    let name = s.name;
-    let bytes = name.bytes;
-    let length = name.length.0 as usize;
-    settled(answer(
-        s,
-        16,
-        response(own.instance, t, 0x11),
-        &bytes[..length],
-        store,
-    ))
-}
-
-// 21
-fn set_name(
-    s: State,
-    t: Stamp,
-    m: Command,
-    words: &[u16],
-    store: &mut [u16],
-    plaques: &[u8],
-) -> Called
-    requires { ⌜ Ruling full t SetName m (now words) (machine s (now store) (now plaques)) ⌝ }
-    ensures { λ r. ⌜ Makes full (governing full (meaning full (machine s (now (store .entry)) (now (plaques .entry)))) t SetName (loadOf full m (now (words .entry)))) s (now (store .entry)) (now (plaques .entry)) r (now (store .exit)) (now (plaques .entry)) ⌝ }
-{
-    let n = s.nodes[16];
-    let q = answer(s, 16, response(n.instance, t, 0x21), b"", store);
-    if !q.ok {
-        return settled(q);
-    }
-    let mut bytes = [0u8; 64];
-    let length = m.size as usize;
-    unpack(words, &mut bytes[..length]);
-    let mut u = q.state;
-    let name = Name {
-        length: Bytes(m.size),
-        bytes,
-    };
-    u.name = name;
-    Called {
-        reply: Reply::Queued,
-        state: u,
-    }
-}
-
-// 60
-fn initialise(
-    s: State,
-    t: Stamp,
-    m: Command,
-    words: &[u16],
-    store: &mut [u16],
-    plaques: &[u8],
-) -> Called
-    requires { ⌜ Ruling full t Initialise m (now words) (machine s (now store) (now plaques)) ⌝ }
-    ensures { λ r. ⌜ Makes full (governing full (meaning full (machine s (now (store .entry)) (now (plaques .entry)))) t Initialise (loadOf full m (now (words .entry)))) s (now (store .entry)) (now (plaques .entry)) r (now (store .exit)) (now (plaques .entry)) ⌝ }
-{
-    let n = s.nodes[16];
-    let q = answer(s, 16, response(n.instance, t, 0x60), b"", store);
-    if !q.ok {
-        return settled(q);
-    }
     let bytes = [0u8; 64];
-    let mut u = q.state;
-    let name = Name {
+    Name {
         length: Bytes(0),
         bytes,
-    };
-    u.name = name;
-    Called {
-        reply: Reply::Queued,
-        state: u,
     }
 }
 
-// 61: its own answer is the first after the counts start again, and always has room.
-fn reset_gateway(
-    s: State,
+// A command of the gateway, by its kind.
+fn rule(
+    count: u8,
+    name: Name,
     t: Stamp,
+    k: OfGateway,
     m: Command,
     words: &[u16],
-    store: &mut [u16],
-    plaques: &[u8],
-) -> Called
-    requires { ⌜ Ruling full t ResetGateway m (now words) (machine s (now store) (now plaques)) ⌝ }
-    ensures { λ r. ⌜ Makes full (governing full (meaning full (machine s (now (store .entry)) (now (plaques .entry)))) t ResetGateway (loadOf full m (now (words .entry)))) s (now (store .entry)) (now (plaques .entry)) r (now (store .exit)) (now (plaques .entry)) ⌝ }
+    answer: &mut [u16],
+) -> Ruled
+    requires { ⌜ Governable full t (K.Gateway k) m (now words) name (length (now answer)) ⌝ }
+    ensures { λ d. ⌜ Governs full count name t (K.Gateway k) m (now (words .entry)) d (now (answer .exit)) ⌝ }
 {
-    let u = reset(s, store);
-    settled(answer(u, 16, response(0, t, 0x61), b"", store))
+    match k {
+        OfGateway::GetName => {
+            let bytes = name.bytes;
+            let length = name.length.0 as usize;
+            let said = say(good(count, t, 0x11), &bytes[..length], answer);
+            due(name, Broom::Nothing, said)
+        }
+        OfGateway::SetName => {
+            let mut bytes = [0u8; 64];
+            let length = m.size as usize;
+            unpack(words, &mut bytes[..length]);
+            let said = say(good(count, t, 0x21), b"", answer);
+            let title = Name {
+                length: Bytes(m.size),
+                bytes,
+            };
+            due(title, Broom::Nothing, said)
+        }
+        OfGateway::Initialise => {
+            let said = say(good(count, t, 0x60), b"", answer);
+            due(no_name(), Broom::Nothing, said)
+        }
+        // Its own answer is the first after the counts start again.
+        OfGateway::ResetGateway => due(name, Broom::Reset, say(good(0, t, 0x61), b"", answer)),
+        OfGateway::Clear => due(name, Broom::Clear, say(good(count, t, 0x79), b"", answer)),
+    }
 }
 
-// 79: its own answer always has room.
-fn clear_lists(
-    s: State,
-    t: Stamp,
-    m: Command,
-    words: &[u16],
-    store: &mut [u16],
-    plaques: &[u8],
-) -> Called
-    requires { ⌜ Ruling full t Clear m (now words) (machine s (now store) (now plaques)) ⌝ }
-    ensures { λ r. ⌜ Makes full (governing full (meaning full (machine s (now (store .entry)) (now (plaques .entry)))) t Clear (loadOf full m (now (words .entry)))) s (now (store .entry)) (now (plaques .entry)) r (now (store .exit)) (now (plaques .entry)) ⌝ }
-{
-    let n = s.nodes[16];
-    let u = clear(s, store);
-    settled(answer(u, 16, response(n.instance, t, 0x79), b"", store))
-}
-
-// A command for the gateway, by its kind.
 pub fn govern(
-    s: State,
+    count: u8,
+    name: Name,
     t: Stamp,
-    kind: OfGateway,
+    kind: Kind,
     m: Command,
     words: &[u16],
-    store: &mut [u16],
-    plaques: &[u8],
-) -> Called
-    requires { ⌜ Ruling full t kind m (now words) (machine s (now store) (now plaques)) ⌝ }
-    ensures { λ r. ⌜ Makes full (governing full (meaning full (machine s (now (store .entry)) (now (plaques .entry)))) t kind (loadOf full m (now (words .entry)))) s (now (store .entry)) (now (plaques .entry)) r (now (store .exit)) (now (plaques .entry)) ⌝ }
+    answer: &mut [u16],
+) -> Ruled
+    requires { ⌜ Governable full t kind m (now words) name (length (now answer)) ⌝ }
+    ensures { λ d. ⌜ Governs full count name t kind m (now (words .entry)) d (now (answer .exit)) ⌝ }
 {
     match kind {
-        OfGateway::GetName => get_name(s, t, m, words, store, plaques),
-        OfGateway::SetName => set_name(s, t, m, words, store, plaques),
-        OfGateway::Initialise => initialise(s, t, m, words, store, plaques),
-        OfGateway::ResetGateway => reset_gateway(s, t, m, words, store, plaques),
-        OfGateway::Clear => clear_lists(s, t, m, words, store, plaques),
+        Kind::Gateway(k) => rule(count, name, t, k, m, words, answer),
+        _ => Ruled {
+            name,
+            broom: Broom::Nothing,
+            words: Words(0),
+            verdict: Verdict::Refused(8),
+        },
     }
 }

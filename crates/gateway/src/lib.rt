@@ -40,7 +40,7 @@ pub fn check(s: State, node: u8, t: Stamp, clock: u32, store: &mut [u16], plaque
     if k != 0 {
         return refused(s, k);
     }
-    reading::check::check(s, node, t, clock, store, plaques)
+    obey::check::check(s, node, t, clock, store, plaques)
 }
 
 // A plaque arrives.

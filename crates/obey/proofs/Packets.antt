@@ -3,17 +3,14 @@
 use Prim.Native.Nat.{ℕ}
 use mathlib.Core.Path.{_≡_, refl, sym, ap, _∙_, subst}
 use mathlib.Core.Bool.{Bool, true, false, not, cond}
-use mathlib.Core.List.{List, [], _∷_}
+use mathlib.Core.List.{List}
 use native.Mathlib.Omega.{arith}
-use lib.Dec.{T, eqb}
+use lib.Dec.{eqb}
 use lib.ListN.{length}
 use borrow.Author.Tests.{eqb-true, eqb-false, eq-eqb, ne-eqb}
-use types.Run.{OneOf}
-use denote.Enum.Declared.{tagOf}
 use Rattle.units.specs.Stamp.{isStamp}
 use Rattle.units.specs.declared.Form.{Form}
 use Rattle.units.specs.declared.stamp.Stamp.{Stamp}
-use Rattle.units.proofs.Arms.{keys}
 use Rattle.units.proofs.Choice.{yes-cond, no-cond}
 use Rattle.meaning.specs.Refusal.{refusal}
 use Rattle.meaning.specs.Bench.{Bench, hub, isNode}
@@ -21,7 +18,6 @@ use Rattle.meaning.specs.Gateway.{Gateway}
 use Rattle.meaning.specs.Table.{_to_, carries, carried}
 use Rattle.meaning.specs.Command.{bodyOf, commandOf, commandDoubts, commandResult, readCommand, commandData}
 use Rattle.meaning.specs.Call.{Said, Outcome, command, asked, judged, commandIn, kindIn, bytesIn, atReader, atHub, named, serves, step}
-use Rattle.meaning.specs.declared.table.OnPlaque.{OnPlaque}
 use Rattle.meaning.specs.declared.table.OnPlaque.the-variants.{Fill, Read, Write, ReadId, Search}
 use Rattle.meaning.specs.declared.table.OfGateway.the-variants.{GetName, SetName, Initialise, ResetGateway, Clear}
 use Rattle.meaning.specs.declared.table.Kind.{Kind}
@@ -29,19 +25,18 @@ use Rattle.meaning.specs.declared.table.Kind.the-variants as K
 use Rattle.meaning.specs.declared.table.Row.{Row}
 use Rattle.meaning.specs.declared.packet.Command.{Command}
 use Rattle.meaning.specs.declared.packet.CommandRead.the-variants as C
-use Rattle.meaning.proofs.table.Kind.{the-type}
 use Rattle.meaning.proofs.Chain.{pass-if}
 use Rattle.meaning.proofs.CommandLaws.{read-is, data-length}
 use Rattle.demands.specs.Sound.{Sound}
 use Rattle.state.specs.Machine.{Machine, meaning}
 use Rattle.state.specs.Consistent.{unfit}
-use Rattle.answers.specs.Ordered.{loadOf, ordered, Ready}
+use Rattle.answers.specs.Ordered.{loadOf, Ready, ordered, heeding}
 use Rattle.promise.specs.Obeyed.{Does}
 use Rattle.promise.proofs.Tables.{hub-apart}
 use Rattle.promise.proofs.Steps.{step-reader, step-hub}
 use Rattle.promise.proofs.Accepted.{rowFor, row-regular, Accepted, accepted, used, reader-suited, reads}
-use Rattle.desk.specs.Ruled.{Told}
-use Rattle.obey.specs.Taken.{kindOf, heeding, taking, ToldOf, Taken}
+use Rattle.desk.specs.Ruled.{Told, ToldOf}
+use Rattle.obey.specs.Taken.{kindOf, taking, Taken}
 
 -- ---- what the reader's result says of the packet
 never : {m : Command} {n : ℕ} → C.Refused n ≡ C.Accepted m → ⊥
@@ -142,13 +137,3 @@ module _ (b : Bench) (g : Gateway) (t : Stamp) (m : Command) (bs : List ℕ) whe
   pub taking-reader : (m .node ≡ hub → ⊥) → taking b g t m bs ≡ ordered b g t (kindOf b m) m bs
   unfolding taking
   taking-reader e = no-cond _ (ne-eqb _ _ e)
-
--- the arm `_` beside Kind::Gateway
-pub not-gateway : (P : Kind → Type 0) (k : Kind) → OneOf (0 ∷ 1 ∷ 2 ∷ 4 ∷ []) (tagOf the-type k)
-    → ((p : OnPlaque) → P (K.Plaque p)) → P K.Continuous → P K.ResetReader → P K.Unknown → P k
-not-gateway P (K.Plaque p) e a c r u = a p
-not-gateway P K.Continuous e a c r u = c
-not-gateway P K.ResetReader e a c r u = r
-not-gateway P (K.Gateway k) e a c r u =
-    absurd (keys (λ (x : ℕ). T (not (eqb x 3))) (0 ∷ 1 ∷ 2 ∷ 4 ∷ []) 3 e (tt, (tt, (tt, (tt, tt)))))
-not-gateway P K.Unknown e a c r u = u

@@ -7,38 +7,34 @@ use mathlib.Core.List.{List}
 use lib.Dec.{eqb}
 use Rattle.units.specs.Stamp.{isStamp}
 use Rattle.units.specs.declared.stamp.Stamp.{Stamp}
-use Rattle.meaning.specs.Bench.{Bench, hub, isNode}
+use Rattle.meaning.specs.Bench.{Bench, hub, isReader, isNode}
 use Rattle.meaning.specs.Gateway.{Gateway}
 use Rattle.meaning.specs.Table.{rowOf}
-use Rattle.meaning.specs.Call.{Outcome, lifted, fromDesk, settled, governed}
+use Rattle.meaning.specs.Call.{Outcome}
 use Rattle.meaning.specs.declared.table.Kind.{Kind}
-use Rattle.meaning.specs.declared.table.Kind.the-variants as K
 use Rattle.meaning.specs.declared.packet.Command.{Command}
 use Rattle.state.specs.Machine.{Machine}
 use Rattle.state.specs.Consistent.{unfit}
-use Rattle.answers.specs.Ordered.{ordered, Ready}
-use Rattle.desk.specs.Ruled.{Told}
+use Rattle.answers.specs.Ordered.{Ready, ordered, heeding}
+use Rattle.desk.specs.Ruled.{ToldOf}
 
 -- the row's kind
 abbrev pub kindOf : Bench → Command → Kind
 kindOf b m = rowOf b (m .command) .kind
-
--- at the gateway's own node, whatever the kind
-unfoldable pub heeding : Bench → Gateway → Stamp → Kind → List ℕ → Outcome
-heeding b g t k bs = settled b g (lifted fromDesk hub g (governed (g .nodes hub) (g .name) t k bs))
 
 -- "a packet [is] for that of word 03"
 unfoldable pub taking : Bench → Gateway → Stamp → Command → List ℕ → Outcome
 taking b g t m bs = cond (eqb (m .node) hub) (heeding b g t (kindOf b m) bs) (ordered b g t (kindOf b m) m bs)
 
 -- ---- what an accepted command brings, on a consistent machine
-unfoldable pub ToldOf : Bench → Kind → Command → List ℕ → Type 0
-ToldOf b (K.Plaque k) m words = Unit
-ToldOf b K.Continuous m words = Unit
-ToldOf b K.ResetReader m words = Unit
-ToldOf b (K.Gateway k) m words = Told b k m words
-ToldOf b K.Unknown m words = Unit
+-- for a reader
+pub record Orderly (b : Bench) (t : Stamp) (k : Kind) (m : Command) (words : List ℕ) (x : Machine) : Type 0 where
+  pub fit : unfit b x ≡ 0
+  pub reader : isReader b (m .node) ≡ true
+  pub stamp : isStamp t ≡ true
+  pub ready : Ready b k m words
 
+-- for the gateway itself
 pub record Heeded (b : Bench) (t : Stamp) (k : Kind) (m : Command) (words : List ℕ) (x : Machine) : Type 0 where
   pub fit : unfit b x ≡ 0
   pub stamp : isStamp t ≡ true

@@ -1,27 +1,46 @@
-// A command, on a machine that is known to be consistent.
+// A command and a field check, on a machine that is known to be consistent: its own node's parts are taken out of the state, and put back.
+pub mod check;
+
+use acts::governed;
+use acts::obeyed;
 use answers::refused;
 use command::command_data;
 use command::read_command;
-use desk::govern;
 use meaning::packet::Command;
 use meaning::packet::CommandRead;
 use meaning::table::Kind;
-use orders::on_plaque;
 use promise::Called;
-use reading::mode::start;
-use reading::mode::stop;
 use rows::row_of;
+use settle::Seated;
 use state::State;
 use units::Form;
 use units::stamp::Stamp;
+ghost use Prim.Native.Nat.{_<_};
 ghost use mathlib.Core.Path.{_≡_};
+ghost use lib.ListN.{set};
 ghost use Rattle.meaning.specs.Bench.{full};
 ghost use Rattle.meaning.specs.Call as S;
 ghost use Rattle.state.specs.Machine.{machine, meaning};
 ghost use Rattle.state.specs.Consistent.{unfit};
 ghost use Rattle.promise.specs.Obeyed.{Makes};
-ghost use Rattle.answers.specs.Ordered.{loadOf, ordered, Orderly};
-ghost use Rattle.obey.specs.Taken.{heeding, taking, Heeded, Taken};
+ghost use Rattle.answers.specs.Ordered.{loadOf, ordered, heeding};
+ghost use Rattle.obey.specs.Taken.{taking, Orderly, Heeded, Taken};
+
+// What a call made of the parts of the reader at an index, put back.
+fn seated(s: State, i: usize, r: Seated) -> Called
+    requires { ⌜ i < 16 ⌝ }
+    ensures { λ q. ⌜ q ≡ record { state = record { name = s .name; readers = set (s .readers) i (r .reader); nodes = set (s .nodes) i (r .node); held = r .held }; reply = r .reply } ⌝ }
+{
+    let mut u = s;
+    let reader = r.reader;
+    let node = r.node;
+    let held = r.held;
+    let reply = r.reply;
+    u.readers[i] = reader;
+    u.nodes[i] = node;
+    u.held = held;
+    Called { state: u, reply }
+}
 
 // A command for a reader, by its kind.
 fn order(
@@ -36,13 +55,12 @@ fn order(
     requires { ⌜ Orderly full t kind m (now words) (machine s (now store) (now plaques)) ⌝ }
     ensures { λ r. ⌜ Makes full (ordered full (meaning full (machine s (now (store .entry)) (now (plaques .entry)))) t kind m (loadOf full m (now (words .entry)))) s (now (store .entry)) (now (plaques .entry)) r (now (store .exit)) (now (plaques .exit)) ⌝ }
 {
-    match kind {
-        Kind::Plaque(k) => on_plaque(s, t, k, m, words, store, plaques),
-        Kind::Continuous => start(s, t, m, words, store, plaques),
-        Kind::ResetReader => stop(s, t, m, words, store, plaques),
-        Kind::Gateway(_) => refused(s, 8),
-        Kind::Unknown => refused(s, 8),
-    }
+    let i = (m.node - 1) as usize;
+    let own = s.nodes[i];
+    let x = s.readers[i];
+    let held = s.held;
+    let r = obeyed(own, x, held, t, kind, m, words, store, plaques);
+    seated(s, i, r)
 }
 
 // A command for the gateway itself, by its kind.
@@ -58,10 +76,19 @@ fn rule(
     requires { ⌜ Heeded full t kind m (now words) (machine s (now store) (now plaques)) ⌝ }
     ensures { λ r. ⌜ Makes full (heeding full (meaning full (machine s (now (store .entry)) (now (plaques .entry)))) t kind (loadOf full m (now (words .entry)))) s (now (store .entry)) (now (plaques .entry)) r (now (store .exit)) (now (plaques .entry)) ⌝ }
 {
-    match kind {
-        Kind::Gateway(k) => govern(s, t, k, m, words, store, plaques),
-        _ => refused(s, 8),
-    }
+    let nodes = s.nodes;
+    let held = s.held;
+    let name = s.name;
+    let r = governed(nodes, held, name, t, kind, m, words, store);
+    let mut u = s;
+    let ns = r.nodes;
+    let hs = r.held;
+    let title = r.name;
+    let reply = r.reply;
+    u.nodes = ns;
+    u.held = hs;
+    u.name = title;
+    Called { state: u, reply }
 }
 
 // A packet that is accepted goes to the node of its word 03.

@@ -1,75 +1,104 @@
-// 04 to 08, which want a plaque in the field, on a machine that is known to be consistent: one of `changes` or `views` where it is there,
-// and an error response where it is not.
-use answers::answer;
-use answers::settled;
-use changes::fill;
-use changes::write;
-use meaning::packet::Command;
-use meaning::packet::Response;
-use meaning::table::OnPlaque;
-use promise::Called;
-use state::State;
-use units::stamp::Stamp;
-use views::read;
-use views::read_id;
-use views::search;
-ghost use Rattle.meaning.specs.Bench.{full};
-ghost use Rattle.meaning.specs.declared.table.Kind.the-variants as K;
-ghost use Rattle.state.specs.Machine.{machine, meaning};
-ghost use Rattle.promise.specs.Obeyed.{Makes};
-ghost use Rattle.answers.specs.Ordered.{loadOf, ordered, Orderly};
-ghost use Rattle.present.specs.Present.{Absent};
+// What a reader makes of a call, decided on its own record and its region alone. Nothing is changed here but the lent answer; room is
+// judged, and the change made, where the call is settled.
+pub mod check;
+pub mod serve;
 
-// No plaque: the error response 07, Tag Not Found, whatever the command.
-fn not_found(
-    s: State,
-    t: Stamp,
-    kind: OnPlaque,
-    m: Command,
-    words: &[u16],
-    store: &mut [u16],
-    plaques: &[u8],
-) -> Called
-    requires { ⌜ Absent full t kind m (now words) (machine s (now store) (now plaques)) ⌝ }
-    ensures { λ r. ⌜ Makes full (ordered full (meaning full (machine s (now (store .entry)) (now (plaques .entry)))) t (K.Plaque kind) m (loadOf full m (now (words .entry)))) s (now (store .entry)) (now (plaques .entry)) r (now (store .exit)) (now (plaques .entry)) ⌝ }
-{
-    let node = m.node;
-    let i = (node - 1) as usize;
-    let own = s.nodes[i];
-    let r = Response {
-        error: true,
-        echo: 0xFF,
-        count: own.instance,
-        node,
-        stamp: t,
-    };
-    settled(answer(s, i, r, b"\x07", store))
+use answers::Verdict;
+use meaning::packet::Response;
+use state::reader::Plaque;
+use state::reader::Reader;
+use units::Words;
+use units::packing::unpack;
+use units::stamp::Stamp;
+ghost use mathlib.Core.Path.{_≡_};
+ghost use mathlib.Core.Bool.{false};
+ghost use Prim.Native.Nat.{_+_, _≤_};
+ghost use lib.Dec.{ltb};
+ghost use lib.ListN.{length, replicate};
+ghost use lib.Seq.{paste};
+ghost use Rattle.orders.specs.Decided.{altered, Suits};
+
+// What becomes of the reader's region.
+pub enum Change {
+    Kept,
+    Filled { start: usize, size: usize, byte: u8 },
+    Written { start: usize, size: usize },
 }
 
-// A command that wants a plaque in the field.
-pub fn on_plaque(
-    s: State,
-    t: Stamp,
-    kind: OnPlaque,
-    m: Command,
-    words: &[u16],
-    store: &mut [u16],
-    plaques: &mut [u8],
-) -> Called
-    requires { ⌜ Orderly full t (K.Plaque kind) m (now words) (machine s (now store) (now plaques)) ⌝ }
-    ensures { λ r. ⌜ Makes full (ordered full (meaning full (machine s (now (store .entry)) (now (plaques .entry)))) t (K.Plaque kind) m (loadOf full m (now (words .entry)))) s (now (store .entry)) (now (plaques .entry)) r (now (store .exit)) (now (plaques .exit)) ⌝ }
+// The reader as it is after the call, what becomes of its region, and the words of the answer that is due.
+pub struct Decided {
+    pub after: Reader,
+    pub change: Change,
+    pub words: Words,
+    pub verdict: Verdict,
+}
+
+fn refused(x: Reader, number: u8) -> Decided
+    ensures { λ d. ⌜ d ≡ record { after = x; change = Change.Kept; words = record { 0 = 0 }; verdict = Verdict.Refused number } ⌝ }
 {
-    let i = (m.node - 1) as usize;
-    let x = s.readers[i];
-    let plaque = x.plaque;
-    if !plaque.present {
-        return not_found(s, t, kind, m, words, store, plaques);
+    Decided {
+        after: x,
+        change: Change::Kept,
+        words: Words(0),
+        verdict: Verdict::Refused(number),
     }
-    match kind {
-        OnPlaque::Fill => fill(s, t, m, words, store, plaques),
-        OnPlaque::Read => read(s, t, m, words, store, plaques),
-        OnPlaque::Write => write(s, t, m, words, store, plaques),
-        OnPlaque::ReadId => read_id(s, t, m, words, store, plaques),
-        OnPlaque::Search => search(s, t, m, words, store, plaques),
+}
+
+fn due(after: Reader, change: Change, words: Words) -> Decided
+    ensures { λ d. ⌜ d ≡ record { after = after; change = change; words = words; verdict = Verdict.Due } ⌝ }
+{
+    Decided {
+        after,
+        change,
+        words,
+        verdict: Verdict::Due,
+    }
+}
+
+// The answer without an error.
+fn good(count: u8, node: u8, t: Stamp, echo: u8) -> Response
+    ensures { λ r. ⌜ r ≡ record { error = false; echo = echo; count = count; node = node; stamp = t } ⌝ }
+{
+    Response {
+        error: false,
+        echo,
+        count,
+        node,
+        stamp: t,
+    }
+}
+
+// Whether start + size pass the plaque's length.
+fn past(plaque: Plaque, start: u16, size: u16) -> bool
+    ensures { λ r. ⌜ r ≡ ltb (plaque .length .0) (start + size) ⌝ }
+{
+    (plaque.length.0 as usize) < start as usize + size as usize
+}
+
+// Bytes of dst from a place on take one value.
+fn fill_bytes(dst: &mut [u8], from: usize, size: usize, byte: u8)
+    requires { ⌜ from + size ≤ length (now dst) ⌝ }
+    ensures { λ _. ⌜ now (dst .exit) ≡ paste (now (dst .entry)) from (replicate size byte) size ⌝ }
+{
+    let mut j: usize = 0;
+    while j < size {
+        let o = from + j;
+        dst[o] = byte;
+        j += 1;
+    }
+}
+
+// The change, on the reader's region.
+pub fn alter(change: Change, words: &[u16], region: &mut [u8])
+    requires { ⌜ Suits change (now words) (length (now region)) ⌝ }
+    ensures { λ _. ⌜ now (region .exit) ≡ altered change (now (words .entry)) (now (region .entry)) ⌝ }
+{
+    match change {
+        Change::Kept => {}
+        Change::Filled { start, size, byte } => fill_bytes(region, start, size, byte),
+        Change::Written { start, size } => {
+            let end = start + size;
+            unpack(words, &mut region[start..end]);
+        }
     }
 }

@@ -2,8 +2,8 @@
 -- Assumes nothing.
 use Prim.Native.Nat.{ℕ, _-_, _≤_, _<_}
 use mathlib.Core.Path.{_≡_, sym, ap, _∙_}
-use mathlib.Core.Bool.{true, false}
-use mathlib.Core.List.{List, [], _∷_}
+use mathlib.Core.Bool.{true}
+use mathlib.Core.List.{List}
 use native.Mathlib.Omega.{arith}
 use lib.ListN.{length}
 use borrow.Author.Tests.{eq-eqb, lt-ltb, le-ltb}
@@ -12,7 +12,7 @@ use Rattle.units.specs.declared.Form.the-variants.{Register}
 use Rattle.units.specs.declared.stamp.Stamp.{Stamp}
 use Rattle.units.proofs.Choice.{yes-cond, no-cond}
 use Rattle.meaning.specs.Bench.{Bench, hub, isReader, isNode}
-use Rattle.meaning.specs.Response.{responseBody, bears, shown, wellFormed}
+use Rattle.meaning.specs.Response.{bears, shown, wellFormed}
 use Rattle.meaning.specs.Gateway.{Node}
 use Rattle.meaning.specs.Call.{answer, tagNotFound}
 use Rattle.demands.specs.Sound.{Sound}
@@ -29,17 +29,6 @@ reader-index b n is =
 
 pub hub-index : (b : Bench) → nodeAt b (b .readers) ≡ hub
 hub-index b = no-cond _ (le-ltb (b .readers) (b .readers) (omega arith))
-
--- ---- by the count that the code has
-module _ (n : ℕ) (x : Node) (t : Stamp) (count : ℕ) (e : x .count ≡ count) where
-  pub answer-is : (echo : ℕ) (s : List ℕ)
-      → answer n x t echo s ≡ responseBody (record { error = false; echo = echo; count = count; node = n; stamp = t }) s
-  unfolding answer
-  answer-is echo s = ap (λ (k : ℕ). responseBody (record { error = false; echo = echo; count = k; node = n; stamp = t }) s) e
-
-  pub not-found-is : tagNotFound n x t ≡ responseBody (record { error = true; echo = 0xFF; count = count; node = n; stamp = t }) (7 ∷ [])
-  unfolding tagNotFound
-  not-found-is = ap (λ (k : ℕ). responseBody (record { error = true; echo = 0xFF; count = k; node = n; stamp = t }) (7 ∷ [])) e
 
 -- ---- well formed, as one of the node at index i: n - 1 for a reader, the number of readers for the gateway
 module _ (b : Bench) (ok : Sound b) (n i : ℕ) (at : nodeAt b i ≡ n) (x : Node) (t : Stamp) (known : isNode b n ≡ true) (good : isStamp t ≡ true) (w : List ℕ) where

@@ -12,7 +12,6 @@ pub mod Plaques
 pub mod Oldest
 pub mod Sweeps
 pub mod Only
-pub mod OneQueue
 pub mod Faults
 pub mod Chains
 pub mod Demands

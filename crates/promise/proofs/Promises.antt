@@ -2,16 +2,15 @@
 -- Assumes nothing.
 use Prim.Native.Nat.{ℕ}
 use mathlib.Core.Path.{_≡_, refl, sym, ap, _∙_, subst}
-use mathlib.Core.Bool.{Bool, true, false, cond, true≢false}
+use mathlib.Core.Bool.{true, false, true≢false}
 use borrow.Author.Tests.{eq-eqb, ne-eqb}
 use Rattle.units.proofs.Choice.{yes-cond, no-cond}
 use Rattle.meaning.specs.Bench.{Bench, hub}
 use Rattle.meaning.specs.Gateway.{Reader, Gateway, setReader}
-use Rattle.meaning.specs.Call.{Call, Said, refused, answered, queued, Result, Outcome, Local, Desk, fromDesk, lifted, settled, step}
+use Rattle.meaning.specs.Call.{Call, Said, refused, answered, Result, Outcome, Local, Desk, fromDesk, lifted, settled, step}
 use Rattle.state.specs.Machine.{Machine, meaning}
 use Rattle.state.specs.Consistent.{unfit}
-use Rattle.promise.specs.Obeyed.{spoken, turned, Does, expected, Obeyed}
-use Rattle.promise.specs.declared.Reply.{Reply}
+use Rattle.promise.specs.Obeyed.{turned, Does, expected, Obeyed}
 use Rattle.promise.proofs.Parts.{Means}
 
 abbrev pub saying : Said → Gateway → Outcome
@@ -72,9 +71,3 @@ module _ {A : Type 0} (b : Bench) (m : Machine) (into : A → Gateway → Gatewa
   unfolding lifted settled turned
   giving {r} {a} e m′ h =
       subst (λ (l : Local A). Locally b m into n l (answered r) m′) (sym e) (does-said b m (answered r) (into a (meaning b m)) m′ refl h)
-
--- what the code replies where an answer was due, with no other effect
-pub spoken-either : (room : Bool) → spoken (cond room Reply.Queued (Reply.Refused 13)) ≡ cond room queued (refused 13)
-unfolding spoken
-spoken-either true = refl
-spoken-either false = refl

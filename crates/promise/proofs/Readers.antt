@@ -44,10 +44,6 @@ module _ (b : Bench) (m : Machine) (n : ℕ) (is : isReader b n ≡ true) (x : R
   unfolding readerOf
   mode-is = ap (λ (r : M.Reader). r .mode) reader-is
 
-  pub region-is : meaning b m .reader n .region ≡ regionOf b (m .memory) n
-  unfolding readerOf
-  region-is = ap (λ (r : M.Reader). r .region) reader-is
-
   pub reader-in-order : Parts b m → readerOk b x ≡ true
   reader-in-order p =
       ap (readerOk b) (sym at)
@@ -212,8 +208,3 @@ module _ (x : Reader) (region : List ℕ) where
       ≡ setMode (on (x .reading .start) (x .reading .size .0) (x .reading .delay) (last (x .plaque .id) clock)) (readerOf x region)
   unfolding readerOf modeOf reportOf
   reported-means clock e = ap (λ (k : Mode). record { field = fieldOf (x .plaque); mode = k; region = region }) (no-cond M.off e)
-
--- bytes in its region
-pub region-means : (x : Reader) (region region′ : List ℕ) → readerOf x region′ ≡ M.setRegion region′ (readerOf x region)
-unfolding readerOf
-region-means x region region′ = refl

@@ -8,7 +8,7 @@ use native.Mathlib.Nat.{add-zero, zero-add, add-suc, suc-add}
 use native.Mathlib.Omega.{arith}
 use lib.Dec.{leb}
 use lib.ListN.{length, take, drop, getD, set, replicate, length-append, length-replicate, length-map, List·getD-map}
-use lib.Seq.{getD-append-add, take-suc, take-length, take-at, drop-at, set-getD, set-split}
+use lib.Seq.{getD-append-add, take-suc, take-length, drop-at, set-getD, set-split}
 use borrow.Author.Tests.{leb-true, le-leb, ne-eqb}
 use Rattle.units.specs.Count.{every}
 use Rattle.units.specs.declared.Words.{Words}
@@ -16,17 +16,16 @@ use Rattle.units.proofs.Choice.{and-true, no-cond}
 use Rattle.meaning.specs.Bench.{Bench}
 use Rattle.meaning.specs.Gateway as M
 use Rattle.meaning.specs.Gateway.{joined, taken, emptied, swept, clearing, resetting}
-use Rattle.meaning.specs.Packet.{wordNo}
 use Rattle.meaning.specs.Response.{wellFormed}
 use Rattle.meaning.specs.Room.{added, held}
 use Rattle.state.specs.State.{nothing, freshNode, joinedNode, takenNode, emptiedNode, resetNode}
-use Rattle.state.specs.Layout.{laid, allLaid, front}
+use Rattle.state.specs.Layout.{laid, allLaid}
 use Rattle.state.specs.Machine.{plain}
 use Rattle.state.specs.Consistent.{nodeAt, formed, chargesOf, bounded, counts}
 use Rattle.state.specs.declared.node.Node.{Node}
 use Rattle.state.proofs.Formed.{formed-says, added-append}
 use Rattle.state.proofs.Lists.{both, map-set, every-get, every-set, every-more}
-use Rattle.state.proofs.Read.{first-word, front-is, length-laid, nodeFor, Packed}
+use Rattle.state.proofs.Read.{first-word, length-laid, nodeFor, Packed}
 use Rattle.moves.specs.Moved.{inserted, removed}
 use Rattle.moves.proofs.Moves.{inserted-at, removed-at}
 use Rattle.lists.specs.Room.{sum, placeOf}
@@ -82,11 +81,6 @@ module _ (b : Bench) where
       let p = and-true (every (wellFormed b (nodeAt b j)) (m .pending)) (formed b (suc j) ms) h in
       let r : placeOf (map held ms) i ≡ length (allLaid (take i ms)) = place-is (suc j) ms i (p .1) in
       rw length-append (omega (arith, length-laid b (nodeAt b j) (m .pending) (p .0)))
-
-  pub all-long : (ms : List M.Node) → formed b 0 ms ≡ true → sum (map held ms) ≡ length (allLaid ms)
-  all-long ms h =
-      ap sum (sym (take-length (map held ms))) ∙ place-is 0 ms (length (map held ms)) h
-      ∙ ap (λ (n : ℕ). length (allLaid (take n ms))) (length-map ms held) ∙ ap (λ (l : List M.Node). length (allLaid l)) (take-length ms)
 
   -- where the bounds are met, all answers fit
   laid-charged : (j : ℕ) (ms : List M.Node) → formed b j ms ≡ true → length (allLaid ms) ≤ chargesOf (b .share) (map held ms)

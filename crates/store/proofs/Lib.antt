@@ -2,3 +2,4 @@
 pub mod Changed
 pub mod Promised
 pub mod Loops
+pub mod Enlisting

@@ -6,9 +6,9 @@ use mathlib.Core.Bool.{true}
 use mathlib.Core.List.{List, [], _∷_, map}
 use native.Mathlib.Omega.{arith}
 use native.Mathlib.Numerals.{add-one}
-use native.Mathlib.Nat.{add-zero, zero-add}
+use native.Mathlib.Nat.{add-zero}
 use lib.Dec.{leb}
-use lib.ListN.{length, getD, drop, set, replicate, length-set, length-map, length-append, length-drop, length-replicate, List·getD-map}
+use lib.ListN.{length, getD, drop, set, replicate, length-map, length-append, length-replicate, List·getD-map}
 use borrow.Author.Tests.{leb-true}
 use Rattle.units.specs.Count.{every}
 use Rattle.units.specs.declared.Words.{Words}
@@ -47,7 +47,7 @@ room-bounded b hs i words o r =
     both (every-set (λ h. leb h (b .limit)) hs i v (e .0) (q .0)) (q .1)
 
 -- the words of all nodes with some more at one
-sum-set : (hs : List ℕ) (i v : ℕ) → i < length hs → sum (set hs i (getD hs i 0 + v)) ≡ sum hs + v
+pub sum-set : (hs : List ℕ) (i v : ℕ) → i < length hs → sum (set hs i (getD hs i 0 + v)) ≡ sum hs + v
 unfolding sum
 sum-set [] i v h = absurd (omega arith)
 sum-set (x ∷ hs) zero v h = omega arith
@@ -201,10 +201,6 @@ module _ (b : Bench) (store : List ℕ) (s : State) (ok : Sound b store s) where
   module _ (k : ℕ) (q : k ≡ length ns) where
     end-laid : placeOf hs k ≡ length (allLaid ms)
     end-laid = ap (placeOf hs) (q ∙ sym (length-nodes store ns)) ∙ end-is b store ns (s .held) ms packed-sound
-
-    pub end-inside : placeOf hs k ≤ length store
-    end-inside =
-        let e = ap length (packed-sound .words) ∙ length-append (allLaid ms) (replicate (packed-sound .spare) 0) in omega (arith, end-laid)
 
     pub wiped : removed store 0 (placeOf hs k) (placeOf hs k) ≡ replicate (length store) 0
     wiped =

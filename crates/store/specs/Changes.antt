@@ -3,7 +3,7 @@
 -- Assumes nothing.
 use Prim.Native.Nat.{ℕ, _<_}
 use mathlib.Core.Path.{_≡_}
-use mathlib.Core.Bool.{Bool, true, false}
+use mathlib.Core.Bool.{true}
 use mathlib.Core.List.{List}
 use lib.ListN.{length, getD, set}
 use Rattle.units.specs.declared.Words.{Words}
@@ -43,11 +43,6 @@ pub record Joinable (b : Bench) (store : List ℕ) (s : State) (i : ℕ) (a : Li
   pub index : i < length (s .nodes)
   pub answer : wellFormed b (nodeAt b i) a ≡ true
   pub room : roomFor b (counts (s .held)) i (length a) ≡ true
-
--- where there is room the answer joins; where not, nothing changes
-pub record Queue (b : Bench) (room : Bool) (store store′ : List ℕ) (s s′ : State) (i : ℕ) (a : List ℕ) : Type 0 where
-  pub yes : room ≡ true → Listed b store store′ s s′ (joinedAt (nodesIn store (s .nodes)) i a)
-  pub no : room ≡ false → (s′ ≡ s) × (store′ ≡ store)
 
 -- ---- the oldest answer leaves it
 abbrev pub takenAt : List M.Node → ℕ → List M.Node

@@ -5,59 +5,126 @@ use lists::room::place_of;
 use moves::insert;
 use moves::remove;
 use state::State;
+use state::node::Node;
 use units::Words;
 ghost use mathlib.Core.Path.{_≡_};
-ghost use mathlib.Core.Bool.{true};
 ghost use mathlib.Core.List.{map};
-ghost use Prim.Native.Nat.{_≤_, _<_};
+ghost use Prim.Native.Nat.{_+_, _≤_, _<_};
 ghost use lib.ListN.{length, getD};
 ghost use Rattle.meaning.specs.Bench.{full};
-ghost use Rattle.meaning.specs.Gateway.{swept, clearing, resetting};
-ghost use Rattle.meaning.specs.Response.{wellFormed};
 ghost use Rattle.state.specs.State.{freshNode};
 ghost use Rattle.state.specs.Machine.{nodesIn};
-ghost use Rattle.state.specs.Consistent.{nodeAt, counts};
-ghost use Rattle.lists.specs.Room.{roomFor, placeOf};
-ghost use Rattle.moves.specs.Moved.{removed};
-ghost use Rattle.store.specs.Changes.{Sound, Listed, joinedAt, Joinable, Queue, takenAt};
+ghost use Rattle.state.specs.Consistent.{counts};
+ghost use Rattle.lists.specs.Room.{placeOf};
+ghost use Rattle.moves.specs.Moved.{inserted};
+ghost use Rattle.store.specs.Changes.{Sound, Listed, takenAt};
+ghost use Rattle.store.specs.Swept.{sweptNode, sweptWords, sweptStore, Enlistable, Enlists};
 
-// An answer that has room joins behind its node's last; what lies behind moves up.
-fn join(s: State, i: usize, answer: &[u16], store: &mut [u16]) -> State
-    requires { ⌜ (i < 17) × Joinable full (now store) s i (now answer) ⌝ }
-    ensures { λ r. ⌜ Listed full (now (store .entry)) (now (store .exit)) s r (joinedAt (nodesIn (now (store .entry)) (s .nodes)) i (now (answer .entry))) ⌝ }
+// What a command does to every node's list.
+pub enum Broom {
+    Nothing,
+    Clear,
+    Reset,
+}
+
+// A node, swept.
+fn sweep(broom: Broom, n: Node) -> Node
+    ensures { λ r. ⌜ r ≡ sweptNode broom n ⌝ }
 {
-    let held = s.held;
+    match broom {
+        Broom::Nothing => n,
+        Broom::Clear => n.emptied(),
+        Broom::Reset => n.reset(),
+    }
+}
+
+// Every node, swept.
+pub fn swept(broom: Broom, nodes: [Node; 17]) -> [Node; 17]
+    ensures { λ r. ⌜ r ≡ map (sweptNode broom) nodes ⌝ }
+{
+    let mut ns = nodes;
+    let mut k: usize = 0;
+    while k < 17 {
+        let n = nodes[k];
+        let m = sweep(broom, n);
+        ns[k] = m;
+        k += 1;
+    }
+    ns
+}
+
+// The words that the nodes hold when they are swept.
+fn swept_words(broom: Broom, held: [Words; 17]) -> [Words; 17]
+    ensures { λ r. ⌜ r ≡ sweptWords broom held ⌝ }
+{
+    match broom {
+        Broom::Nothing => held,
+        _ => [Words(0); 17],
+    }
+}
+
+// The words that were held become 0 where the lists are swept, so that the whole store is.
+fn sweep_store(broom: Broom, held: [Words; 17], store: &mut [u16])
+    requires { ⌜ placeOf (counts held) 17 ≤ length (now store) ⌝ }
+    ensures { λ _. ⌜ now (store .exit) ≡ sweptStore broom held (now (store .entry)) ⌝ }
+{
+    match broom {
+        Broom::Nothing => {}
+        _ => {
+            let end = place_of(held, 17);
+            remove(store, 0, end, end);
+        }
+    }
+}
+
+// An answer that has room joins behind the last of the node at index i; what lies behind moves up.
+fn join(held: [Words; 17], i: usize, answer: &[u16], store: &mut [u16])
+    requires { ⌜ (i < 17) × (placeOf (counts held) 17 + length (now answer) ≤ length (now store)) ⌝ }
+    ensures { λ _. ⌜ now (store .exit) ≡ inserted (now (store .entry)) (placeOf (counts held) (i + 1)) (placeOf (counts held) 17) (now (answer .entry)) ⌝ }
+{
     let at = place_of(held, i + 1);
     let end = place_of(held, 17);
     insert(store, at, end, answer);
-    let mut t = s;
-    let n = s.nodes[i];
-    let m = n.joined();
-    t.nodes[i] = m;
-    let h = held[i];
-    t.held[i] = Words(h.0 + answer.len() as u16);
-    t
 }
 
-pub struct Queued {
-    pub state: State,
+// The node at which an answer was judged for room, and the words that all nodes hold; where it had none, both as they were.
+pub struct Enlisted {
     pub ok: bool,
+    pub node: Node,
+    pub held: [Words; 17],
 }
 
-// Adds an answer at the end of a node's list where it has room; where not, nothing changes.
-pub fn queue(s: State, i: usize, answer: &[u16], store: &mut [u16]) -> Queued
-    requires { ⌜ Sound full (now store) s × (i < 17) × (wellFormed full (nodeAt full i) (now answer) ≡ true) ⌝ }
-    ensures { λ r. ⌜ (r .ok ≡ roomFor full (counts (s .held)) i (length (now (answer .entry)))) × Queue full (r .ok) (now (store .entry)) (now (store .exit)) s (r .state) i (now (answer .entry)) ⌝ }
+// Lists are swept where a command says so, room is judged, and the answer joins the list of the node at index i. `own` is that node after
+// the sweep. Where there is no room nothing changes.
+pub fn enlist(
+    broom: Broom,
+    held: [Words; 17],
+    i: usize,
+    own: Node,
+    answer: &[u16],
+    store: &mut [u16],
+) -> Enlisted
+    requires { ⌜ Enlistable full held i own (length (now answer)) (length (now store)) ⌝ }
+    ensures { λ r. ⌜ Enlists full broom held i own (now (answer .entry)) (now (store .entry)) (now (store .exit)) r ⌝ }
 {
-    let held = s.held;
-    if !has_room(held, i, Words(answer.len() as u16)) {
-        return Queued {
+    let mut hs = swept_words(broom, held);
+    let words = answer.len() as u16;
+    if !has_room(hs, i, Words(words)) {
+        return Enlisted {
             ok: false,
-            state: s,
+            node: own,
+            held,
         };
     }
-    let t = join(s, i, answer, store);
-    Queued { ok: true, state: t }
+    sweep_store(broom, held, store);
+    join(hs, i, answer, store);
+    let h = hs[i];
+    hs[i] = Words(h.0 + words);
+    Enlisted {
+        ok: true,
+        node: own.joined(),
+        held: hs,
+    }
 }
 
 // The oldest answer of a node that has one leaves; what lies behind moves down, and the freed words become 0.
@@ -76,54 +143,5 @@ pub fn take(s: State, i: usize, store: &mut [u16]) -> State
     t.nodes[i] = m;
     let h = held[i];
     t.held[i] = Words(h.0 - words);
-    t
-}
-
-// All words that the nodes hold become 0, so that the whole store is.
-fn wipe_held(held: [Words; 17], store: &mut [u16])
-    requires { ⌜ placeOf (counts held) 17 ≤ length (now store) ⌝ }
-    ensures { λ _. ⌜ now (store .exit) ≡ removed (now (store .entry)) 0 (placeOf (counts held) 17) (placeOf (counts held) 17) ⌝ }
-{
-    let end = place_of(held, 17);
-    remove(store, 0, end, end);
-}
-
-// 79: every list is emptied, and every word of the store is 0.
-pub fn clear(s: State, store: &mut [u16]) -> State
-    requires { ⌜ Sound full (now store) s ⌝ }
-    ensures { λ r. ⌜ Listed full (now (store .entry)) (now (store .exit)) s r (map (swept clearing) (nodesIn (now (store .entry)) (s .nodes))) ⌝ }
-{
-    let held = s.held;
-    wipe_held(held, store);
-    let mut t = s;
-    let none = Words(0);
-    t.held = [none; 17];
-    let mut k: usize = 0;
-    while k < 17 {
-        let n = s.nodes[k];
-        let m = n.emptied();
-        t.nodes[k] = m;
-        k += 1;
-    }
-    t
-}
-
-// 61: the same, and every instance count starts again.
-pub fn reset(s: State, store: &mut [u16]) -> State
-    requires { ⌜ Sound full (now store) s ⌝ }
-    ensures { λ r. ⌜ Listed full (now (store .entry)) (now (store .exit)) s r (map (swept resetting) (nodesIn (now (store .entry)) (s .nodes))) ⌝ }
-{
-    let held = s.held;
-    wipe_held(held, store);
-    let mut t = s;
-    let none = Words(0);
-    t.held = [none; 17];
-    let mut i: usize = 0;
-    while i < 17 {
-        let n = s.nodes[i];
-        let m = n.reset();
-        t.nodes[i] = m;
-        i += 1;
-    }
     t
 }

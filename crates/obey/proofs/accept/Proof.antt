@@ -8,8 +8,8 @@ use Rattle.meaning.specs.Call as S
 use Rattle.meaning.specs.declared.table.Row.{Row}
 use Rattle.state.specs.Machine.{Machine, machine, meaning}
 use Rattle.promise.proofs.Accepted.{reader-suited}
-use Rattle.answers.specs.Ordered.{loadOf, ordered, Orderly}
-use Rattle.obey.specs.Taken.{heeding, Heeded}
+use Rattle.answers.specs.Ordered.{loadOf, ordered, heeding}
+use Rattle.obey.specs.Taken.{Orderly, Heeded}
 use borrow.Author.Needs.{needs}
 use Rattle.obey.proofs.accept.Statement.{statement}
 use Rattle.obey.proofs.accept.Tie as tie

@@ -1,3 +1,0 @@
-pub mod Due
-pub mod Turns
-pub mod Looks

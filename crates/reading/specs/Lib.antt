@@ -1,2 +1,0 @@
-pub mod Look
-pub mod Turn
