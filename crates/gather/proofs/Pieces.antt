@@ -8,7 +8,7 @@ use native.Mathlib.Omega.{arith}
 use native.Mathlib.Numerals.{add-one, unary-clauses}
 use native.Mathlib.Decide.{decLt, ℕ-discrete}
 use lib.ListN.{length, getD, take, drop, set, length-append, length-take, length-drop, length-set, drop-of-length-le}
-use lib.Seq.{sets, sets-eq, length-sets, take-all, take-at, take-nil, drop-drop}
+use lib.Seq.{sets, sets-eq, length-sets, take-all, take-at, take-nil, drop-drop, getD-drop}
 use borrow.Author.Tests.{eq-eqb, ne-eqb}
 use Rattle.units.proofs.Choice.{yes-cond, no-cond}
 use Rattle.dialog.specs.Fields.{before}
@@ -36,11 +36,11 @@ fed-more : (c : ℕ) (cs : List ℕ) → (c ≡ 10 → ⊥) → fed (c ∷ cs) �
 unfolding fed
 fed-more c cs d = no-cond _ (ne-eqb c 10 d)
 
-lines-feed : (c : ℕ) (cs : List ℕ) → c ≡ 10 → linesOf (c ∷ cs) ≡ [] ∷ linesOf cs
+pub lines-feed : (c : ℕ) (cs : List ℕ) → c ≡ 10 → linesOf (c ∷ cs) ≡ [] ∷ linesOf cs
 unfolding linesOf
 lines-feed c cs e = yes-cond _ (eq-eqb c 10 e)
 
-lines-more : (c : ℕ) (cs : List ℕ) → (c ≡ 10 → ⊥) → linesOf (c ∷ cs) ≡ before c (linesOf cs)
+pub lines-more : (c : ℕ) (cs : List ℕ) → (c ≡ 10 → ⊥) → linesOf (c ∷ cs) ≡ before c (linesOf cs)
 unfolding linesOf
 lines-more c cs d = no-cond _ (ne-eqb c 10 d)
 
@@ -74,11 +74,11 @@ line-less (c ∷ cs) e = elim (ℕ-discrete c 10) [
 ]
 
 -- ---- the lines of what is left
-lines-none : linesOf [] ≡ []
+pub lines-none : linesOf [] ≡ []
 unfolding linesOf
 lines-none = refl
 
-lines-first : (bs : List ℕ) → 0 < length bs → linesOf bs ≡ lineIn bs ∷ linesOf (drop (suc (length (lineIn bs))) bs)
+pub lines-first : (bs : List ℕ) → 0 < length bs → linesOf bs ≡ lineIn bs ∷ linesOf (drop (suc (length (lineIn bs))) bs)
 unfolding linesOf lineIn before
 lines-first [] h = absurd (omega arith)
 lines-first (c ∷ []) h = elim (ℕ-discrete c 10) [
@@ -89,17 +89,6 @@ lines-first (c ∷ b ∷ bs) h = elim (ℕ-discrete c 10) [
   | yes e ↦ rw (line-feed c (b ∷ bs) e) (lines-feed c (b ∷ bs) e)
   | no d ↦ lines-more c (b ∷ bs) d ∙ ap (before c) (lines-first (b ∷ bs) (omega arith)) ∙ rw (line-more c (b ∷ bs) d)
 ]
-
--- how many: one more at a line feed, and where there was none
-before-none : (c : ℕ) (ls : List (List ℕ)) → length ls ≡ 0 → length (before c ls) ≡ 1
-unfolding before
-before-none c [] e = refl
-before-none c (l ∷ ls) e = absurd (omega arith)
-
-before-some : (c : ℕ) (ls : List (List ℕ)) → 0 < length ls → length (before c ls) ≡ length ls
-unfolding before
-before-some c [] h = absurd (omega arith)
-before-some c (l ∷ ls) h = refl
 
 -- ---- at a place of the bytes
 module _ (bs : List ℕ) (at : ℕ) where
@@ -131,22 +120,43 @@ module _ (bs : List ℕ) (at : ℕ) where
   pub line-within : at ≤ length bs → at + length (lineIn (drop at bs)) ≤ length bs
   line-within h = omega (arith, line-short (drop at bs), length-drop at bs)
 
--- how many lines there are from a byte on, by how many from the next one on
-module _ (bs : List ℕ) (i n : ℕ) (h : 0 < i) (g : i ≤ length bs) (e : n ≡ length (linesOf (drop i bs))) where
-  count-back : length (linesOf (drop (i - 1) bs)) ≡ length (linesOf (getD bs (i - 1) 0 ∷ drop i bs))
-  count-back = let m : i - 1 + 1 ≡ i = omega arith in ap (λ (x : List ℕ). length (linesOf x)) (next bs (i - 1) 0 (omega arith)) ∙ rw m
+-- where the first bytes have no line feed, the line ends where it ends from past them
+line-past : (n : ℕ) (bs : List ℕ) → n ≤ length bs → fed (take n bs) ≡ false → length (lineIn bs) ≡ n + length (lineIn (drop n bs))
+line-past zero bs h e = omega arith
+line-past (suc n) [] h e = absurd (omega arith)
+line-past (suc n) (c ∷ cs) h e = elim (ℕ-discrete c 10) [
+  | yes f ↦ absurd (true≢false (sym (fed-feed c (take n cs) f) ∙ e))
+  | no d ↦ omega (arith, ap length (line-more c cs d), line-past n cs (omega arith) (sym (fed-more c (take n cs) d) ∙ e))
+]
 
-  pub count-feed : getD bs (i - 1) 0 ≡ 10 → n + 1 ≡ length (linesOf (drop (i - 1) bs))
-  count-feed f = omega (arith, e, count-back, ap length (lines-feed (getD bs (i - 1) 0) (drop i bs) f))
+pub block-past : (bs : List ℕ) (at n : ℕ) → at + n ≤ length bs → fed (take n (drop at bs)) ≡ false
+    → at + n + length (lineIn (drop (at + n) bs)) ≡ at + length (lineIn (drop at bs))
+block-past bs at n h e =
+    omega (arith, line-past n (drop at bs) (omega (arith, length-drop at bs)) e, ap (λ (l : List ℕ). length (lineIn l)) (drop-drop n at bs))
 
-  pub count-first : n ≡ 0 → n + 1 ≡ length (linesOf (drop (i - 1) bs))
-  count-first z = elim (ℕ-discrete (getD bs (i - 1) 0) 10) [
-    | yes f ↦ count-feed f
-    | no d ↦ omega (arith, count-back, ap length (lines-more (getD bs (i - 1) 0) (drop i bs) d) ∙ before-none _ _ (sym e ∙ z))
-  ]
+-- whether there is a line feed, by a byte more
+fed-now : (bs : List ℕ) (k : ℕ) → k < length bs → getD bs k 0 ≡ 10 → fed (take (suc k) bs) ≡ true
+fed-now [] k h e = absurd (omega arith)
+fed-now (c ∷ cs) zero h e = fed-feed c [] e
+fed-now (c ∷ cs) (suc k) h e = elim (ℕ-discrete c 10) [
+  | yes f ↦ fed-feed c (take (suc k) cs) f
+  | no d ↦ fed-more c (take (suc k) cs) d ∙ fed-now cs k (omega arith) e
+]
 
-  pub count-same : (getD bs (i - 1) 0 ≡ 10 → ⊥) → (n ≡ 0 → ⊥) → n ≡ length (linesOf (drop (i - 1) bs))
-  count-same d z = e ∙ sym (count-back ∙ ap length (lines-more (getD bs (i - 1) 0) (drop i bs) d) ∙ before-some _ _ (omega arith))
+fed-still : (bs : List ℕ) (k : ℕ) → k < length bs → (getD bs k 0 ≡ 10 → ⊥) → fed (take (suc k) bs) ≡ fed (take k bs)
+fed-still [] k h d = absurd (omega arith)
+fed-still (c ∷ cs) zero h d = fed-more c [] d
+fed-still (c ∷ cs) (suc k) h d = elim (ℕ-discrete c 10) [
+  | yes f ↦ fed-feed c (take (suc k) cs) f ∙ sym (fed-feed c (take k cs) f)
+  | no n ↦ fed-more c (take (suc k) cs) n ∙ fed-still cs k (omega arith) d ∙ sym (fed-more c (take k cs) n)
+]
+
+module _ (bs : List ℕ) (at k : ℕ) (h : at + k < length bs) where
+  pub block-fed : getD bs (at + k) 0 ≡ 10 → fed (take (k + 1) (drop at bs)) ≡ true
+  block-fed e = rw (add-one k) (fed-now (drop at bs) k (omega (arith, length-drop at bs)) (getD-drop at bs k 0 ∙ e))
+
+  pub block-same : (getD bs (at + k) 0 ≡ 10 → ⊥) → fed (take (k + 1) (drop at bs)) ≡ fed (take k (drop at bs))
+  block-same d = rw (add-one k) (fed-still (drop at bs) k (omega (arith, length-drop at bs)) (λ e. d (sym (getD-drop at bs k 0) ∙ e)))
 
 -- ---- a piece gathered
 module _ (piece : List ℕ) (at : ℕ) (line : List ℕ) (k : ℕ) where

@@ -5,14 +5,18 @@ use mathlib.Core.Path.{_≡_, refl, sym, ap, _∙_, subst}
 use mathlib.Core.Bool.{Bool, true, false, cond}
 use native.Mathlib.Omega.{arith}
 use mathlib.Core.List.{List}
-use lib.ListN.{length, getD, take, drop}
+use lib.ListN.{length, getD, take, drop, set}
 use lib.Seq.{getD-drop}
 use borrow.Author.Tests.{eq-eqb}
 use Rattle.units.proofs.Choice.{yes-cond, no-cond}
 use Rattle.meaning.specs.Bench.{Bench, full, isNode}
 use Rattle.meaning.specs.Call.{Call, Said, refused, Outcome, step}
-use Rattle.state.specs.Machine.{Machine, nodeSlot, machine, meaning}
-use Rattle.state.specs.State.{freshNode}
+use Rattle.state.specs.Machine.{Machine, nodeSlot, nodesIn, machine, meaning}
+use Rattle.state.specs.State.{freshNode, takenNode}
+use Rattle.state.specs.declared.node.Node.{Node}
+use Rattle.store.specs.Changes.{withLists, Listed, takenAt}
+use Rattle.store.specs.Swept.{Takeable, Takes}
+use Rattle.units.specs.declared.Words.{Words}
 use Rattle.meaning.specs.Packet.{overall}
 use Rattle.state.specs.Consistent.{counts, unfit}
 use Rattle.state.proofs.Read.{blank, node-any}
@@ -72,6 +76,24 @@ stands m fits n i f some place e =
       most = k .most;
       inside = omega (arith, k .before, k .inside);
     }
+
+-- ---- .. taken away
+module _ (m : Machine) (fits : unfit full m ≡ 0) (n i : ℕ) (f : Found m n i) (some : 0 < getD (m .state .nodes) i blank .answers) where
+  pub takeable : Takeable full (m .state .held) i (m .store)
+  takeable =
+      let k = takes full m fits n i (f .is) (f .slot) (getD (m .state .nodes) i blank) (f .at) some in
+      record {
+        index = omega (arith, f .slot, node-inside full n 17 (f .is) refl);
+        least = omega (arith, k .says, k .least);
+        own = omega (arith, k .says, k .own);
+        before = omega (arith, k .says, k .before);
+        inside = k .inside;
+      }
+
+  pub taken-listed : {store′ : List ℕ} {hs : List Words} {x : Node} → Takes full (m .state .held) i (m .store) store′ hs
+      → x ≡ takenNode (getD (m .state .nodes) i blank)
+      → Listed full (m .store) store′ (m .state) (withLists (m .state) (set (m .state .nodes) i x) hs) (takenAt (nodesIn (m .store) (m .state .nodes)) i)
+  taken-listed t e = rw (e, t .held, t .words) (takes full m fits n i (f .is) (f .slot) (getD (m .state .nodes) i blank) (f .at) some .after)
 
 -- ---- the promise on a machine that has neither refusal
 module _ (b : Bench) (m : Machine) (fits : unfit b m ≡ 0) (c : Call) where

@@ -37,7 +37,12 @@ pub fn acknowledge(s: State, node: u8, number: u16, store: &mut [u16], plaques: 
     if number != n.handover {
         return refused(s, 15);
     }
-    let t = take(s, i, store);
+    let held = s.held;
+    let hs = take(held, i, store);
+    let m = n.taken();
+    let mut t = s;
+    t.nodes[i] = m;
+    t.held = hs;
     Called {
         reply: Reply::Done,
         state: t,

@@ -105,8 +105,8 @@ pub fn house(
             let mut ns = swept(broom, nodes);
             let own = ns[16];
             let n = d.words.0 as usize;
-            let q = enlist(broom, held, 16, own, &answer[..n], store);
-            if !q.ok {
+            let e = enlist(broom, held, 16, own, &answer[..n], store);
+            if !e.ok {
                 return Housed {
                     nodes,
                     held,
@@ -114,8 +114,8 @@ pub fn house(
                     reply: Reply::Refused(13),
                 };
             }
-            let last = q.node;
-            let helds = q.held;
+            let last = e.node;
+            let helds = e.held;
             let title = d.name;
             ns[16] = last;
             Housed {

@@ -1,6 +1,6 @@
--- All lists swept, and an answer judged for room and joined: what the code leaves, to the last word.
+-- All lists swept, an answer judged for room and joined, and the oldest taken away: what the code leaves, to the last word.
 -- Assumes nothing.
-use Prim.Native.Nat.{ℕ, _+_, _≤_, _<_}
+use Prim.Native.Nat.{ℕ, _+_, _-_, _≤_, _<_}
 use mathlib.Core.Path.{_≡_}
 use mathlib.Core.Bool.{true, false}
 use mathlib.Core.List.{List}
@@ -66,3 +66,19 @@ pub record Enlists (b : Bench) (z : Broom) (hs : List Words) (i : ℕ) (own : No
   pub yes : r .ok ≡ true → (r .node ≡ joinedNode own) × (r .held ≡ heldMore (sweptWords z hs) i (length a))
       × (store′ ≡ storeMore (sweptWords z hs) i a (sweptStore z hs store))
   pub no : r .ok ≡ false → (r .node ≡ own) × (r .held ≡ hs) × (store′ ≡ store)
+
+-- ---- the oldest answer leaves the node at index i: the word at the node's place says how many words it has
+abbrev pub oldestAt : List Words → ℕ → List ℕ → ℕ
+oldestAt hs i store = getD store (placeOf (counts hs) i) 0
+
+-- one that stands there: within the node's words, and all words within the store
+pub record Takeable (b : Bench) (hs : List Words) (i : ℕ) (store : List ℕ) : Type 0 where
+  pub index : i < b .readers + 1
+  pub least : 1 ≤ oldestAt hs i store
+  pub own : oldestAt hs i store ≤ getD hs i nothing .0
+  pub before : placeOf (counts hs) i + oldestAt hs i store ≤ placeOf (counts hs) (b .readers + 1)
+  pub inside : placeOf (counts hs) (b .readers + 1) ≤ length store
+
+pub record Takes (b : Bench) (hs : List Words) (i : ℕ) (store store′ : List ℕ) (r : List Words) : Type 0 where
+  pub held : r ≡ set hs i (record { 0 = getD hs i nothing .0 - oldestAt hs i store })
+  pub words : store′ ≡ removed store (placeOf (counts hs) i) (placeOf (counts hs) (b .readers + 1)) (oldestAt hs i store)

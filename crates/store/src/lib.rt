@@ -4,21 +4,17 @@ use lists::room::has_room;
 use lists::room::place_of;
 use moves::insert;
 use moves::remove;
-use state::State;
 use state::node::Node;
 use units::Words;
 ghost use mathlib.Core.Path.{_≡_};
 ghost use mathlib.Core.List.{map};
 ghost use Prim.Native.Nat.{_+_, _≤_, _<_};
-ghost use lib.ListN.{length, getD};
+ghost use lib.ListN.{length};
 ghost use Rattle.meaning.specs.Bench.{full};
-ghost use Rattle.state.specs.State.{freshNode};
-ghost use Rattle.state.specs.Machine.{nodesIn};
 ghost use Rattle.state.specs.Consistent.{counts};
 ghost use Rattle.lists.specs.Room.{placeOf};
 ghost use Rattle.moves.specs.Moved.{inserted};
-ghost use Rattle.store.specs.Changes.{Sound, Listed, takenAt};
-ghost use Rattle.store.specs.Swept.{sweptNode, sweptWords, sweptStore, Enlistable, Enlists};
+ghost use Rattle.store.specs.Swept.{sweptNode, sweptWords, sweptStore, Enlistable, Enlists, Takeable, Takes};
 
 // What a command does to every node's list.
 pub enum Broom {
@@ -127,21 +123,18 @@ pub fn enlist(
     }
 }
 
-// The oldest answer of a node that has one leaves; what lies behind moves down, and the freed words become 0.
-pub fn take(s: State, i: usize, store: &mut [u16]) -> State
-    requires { ⌜ Sound full (now store) s × (i < 17) × (0 < getD (s .nodes) i freshNode .answers) ⌝ }
-    ensures { λ r. ⌜ Listed full (now (store .entry)) (now (store .exit)) s r (takenAt (nodesIn (now (store .entry)) (s .nodes)) i) ⌝ }
+// The oldest answer of the node at index i leaves, which has one; what lies behind moves down, and the freed words become 0. The result is
+// what the nodes then hold.
+pub fn take(held: [Words; 17], i: usize, store: &mut [u16]) -> [Words; 17]
+    requires { ⌜ Takeable full held i (now store) ⌝ }
+    ensures { λ r. ⌜ Takes full held i (now (store .entry)) (now (store .exit)) r ⌝ }
 {
-    let held = s.held;
     let at = place_of(held, i);
     let end = place_of(held, 17);
     let words = store[at];
     remove(store, at, end, words as usize);
-    let mut t = s;
-    let n = s.nodes[i];
-    let m = n.taken();
-    t.nodes[i] = m;
-    let h = held[i];
-    t.held[i] = Words(h.0 - words);
-    t
+    let mut hs = held;
+    let h = hs[i];
+    hs[i] = Words(h.0 - words);
+    hs
 }

@@ -1,19 +1,19 @@
 -- Laws of writing: one text after another, how long a text is, and the turns of the loops.
 -- Assumes nothing.
-use Prim.Native.Nat.{ℕ, zero, suc, _+_, _*_, _/_, _%_, _^_, _≤_, _<_}
+use Prim.Native.Nat.{ℕ, zero, suc, _+_, _-_, _*_, _/_, _%_, _^_, _≤_, _<_}
 use mathlib.Core.Path.{_≡_, refl, sym, ap, subst, _∙_}
-use mathlib.Core.List.{List, [], _∷_, _++_, append-assoc}
+use mathlib.Core.List.{List, [], _∷_, _++_}
 use mathlib.Core.Bool.{true, cond}
 use native.Mathlib.Omega.{arith}
 use native.Mathlib.Numerals.{add-one}
 use native.Mathlib.Decide.{ℕ-discrete}
-use native.Mathlib.Nat.{pow-succ'}
-use lib.ListN.{length, getD, take, drop, set, length-append, length-take, length-drop}
-use lib.Seq.{sets, sets-eq, length-sets, drop-cons, slice, take-at, drop-at}
-use lib.Dec.{ltb, eqb}
-use borrow.Author.Tests.{lt-ltb, le-ltb, eq-eqb, ne-eqb}
+use native.Mathlib.Nat.{pow-succ', mod-eq-of-lt, add-mul-mod-self-left}
+use lib.ListN.{length, getD, take, drop, set, length-append, length-take}
+use lib.Seq.{sets, sets-eq, length-sets, set-set, drop-cons, slice, take-at, drop-at}
+use lib.Dec.{ltb}
+use borrow.Author.Tests.{lt-ltb, le-ltb}
 use Rattle.units.proofs.Choice.{yes-cond, no-cond}
-use Rattle.text.specs.Text.{Put, hexOf, byteHexOf, bytesHexOf, decimalWithin, decimalOf, afterWord, wordsLine}
+use Rattle.text.specs.Text.{Put, digitOf, hexOf, byteHexOf, bytesHexOf, decimalWithin, decimalOf, wordsLine}
 
 sets-append : (l : List ℕ) (i : ℕ) (vs ws : List ℕ) → sets l i (vs ++ ws) ≡ sets (sets l i vs) (i + length vs) ws
 sets-append l i [] ws = ap (λ (k : ℕ). sets l k ws) (omega arith)
@@ -58,6 +58,21 @@ put-there {old} {text} {new} {at} {r} p h =
 -- the same text by another name
 pub put-as : {o n t u : List ℕ} {at r : ℕ} → t ≡ u → Put o at t n r → Put o at u n r
 put-as {o} {n} {t} {u} {at} {r} e p = subst (λ (x : List ℕ). Put o at x n r) e p
+
+-- a digit without a branch: the quotient is 1 from 10 on, and 0 below
+pub digit-is : (d : ℕ) → d < 16 → 48 + d + (d + 6) / 16 * 7 ≡ digitOf d
+digit-is d h =
+    elim (ℕ-discrete ((d + 6) / 16) 0) [
+      | yes e ↦ let n : 48 + d + (d + 6) / 16 * 7 ≡ 48 + d = omega arith in n ∙ sym (yes-cond _ (lt-ltb d 10 (omega arith)))
+      | no e ↦ let n : 48 + d + (d + 6) / 16 * 7 ≡ 55 + d = omega arith in n ∙ sym (no-cond _ (le-ltb d 10 (omega arith)))
+    ]
+
+pub digit-small : (d : ℕ) → d < 16 → digitOf d < 256
+digit-small d h = rw (← (digit-is d h)) (omega arith)
+
+-- the lowest of the numbers below m that one number holds
+pub lowest : (m : ℕ) {n k : ℕ} (h : ℕ) → n ≡ k + m * h → k < m → n % m ≡ k
+lowest m {n} {k} h e l = ap (λ (x : ℕ). x % m) e ∙ add-mul-mod-self-left k m h ∙ mod-eq-of-lt l
 
 -- lengths
 pub length-hex : (w : ℕ) → length (hexOf w) ≡ 4
@@ -123,19 +138,42 @@ pub bytes-next : (bs : List ℕ) (i : ℕ) → i < length bs → bytesHexOf (dro
 unfolding bytesHexOf
 bytes-next bs i h = ap bytesHexOf (text-next bs i h)
 
-after-is : (ws : List ℕ) (i n : ℕ) → i < n → length ws + i ≡ n → cond (eqb (i + 1) n) 10 32 ≡ afterWord (drop 1 ws)
-after-is [] i n h e = absurd (omega arith)
-after-is (w ∷ []) i n h e = yes-cond 32 (eq-eqb (i + 1) n (omega arith))
-after-is (w ∷ v ∷ ws) i n h e = no-cond 10 (ne-eqb (i + 1) n (λ q. omega arith))
+-- words, a blank after each: a line of words before its last byte is set
+unfoldable pub spaced : List ℕ → List ℕ
+spaced [] = []
+spaced (w ∷ ws) = (hexOf w ++ (32 ∷ [])) ++ spaced ws
 
-after-word : (ws : List ℕ) (i : ℕ) → i < length ws → cond (eqb (i + 1) (length ws)) 10 32 ≡ afterWord (drop (i + 1) ws)
-after-word ws i h =
-    after-is (drop i ws) i (length ws) h (omega (arith, length-drop i ws))
-    ∙ ap (λ (x : List ℕ). afterWord (drop 1 x)) (text-next ws i h)
+pub length-spaced : (ws : List ℕ) → length (spaced ws) ≡ 5 * length ws
+unfolding spaced
+length-spaced [] = refl
+length-spaced (w ∷ ws) = simp length-append (omega (arith, length-hex w, length-spaced ws))
 
 pub words-next : (ws : List ℕ) (i : ℕ) → i < length ws
-    → wordsLine (drop i ws) ≡ (hexOf (getD ws i 0) ++ (cond (eqb (i + 1) (length ws)) 10 32 ∷ [])) ++ wordsLine (drop (i + 1) ws)
-unfolding wordsLine
-words-next ws i h =
-    ap wordsLine (text-next ws i h)
-    ∙ rw (append-assoc (hexOf (getD ws i 0)), after-word ws i h)
+    → spaced (drop i ws) ≡ (hexOf (getD ws i 0) ++ (32 ∷ [])) ++ spaced (drop (i + 1) ws)
+unfolding spaced
+words-next ws i h = ap spaced (text-next ws i h)
+
+line-fed : (ws o : List ℕ) (at k : ℕ) → 0 < length ws → k + 1 ≡ at + 5 * length ws
+    → set (sets o at (spaced ws)) k 10 ≡ sets o at (wordsLine ws)
+unfolding spaced hexOf wordsLine
+line-fed [] o at k h e = absurd (omega arith)
+line-fed (w ∷ []) o at k h e =
+    let p : k ≡ suc (suc (suc (suc at))) = omega arith in
+    rw (p, set-set)
+line-fed (w ∷ v ∷ ws) o at k h e =
+    line-fed (v ∷ ws) (sets o at (hexOf w ++ (32 ∷ []))) (suc (suc (suc (suc (suc at))))) k (omega arith) (omega arith)
+
+-- a line feed in the last blank's place
+pub words-done : {o₀ o : List ℕ} {at to : ℕ} (ws : List ℕ) → 0 < length ws
+    → Put o₀ at (spaced ws) o to → Put o₀ at (wordsLine ws) (set o (to - 1) 10) to
+words-done {o₀} {o} {at} {to} ws h p =
+    let n = length-spaced ws in record {
+      next = omega (arith, p .next, length-words ws);
+      wrote = ap (λ (x : List ℕ). set x (to - 1) 10) (p .wrote) ∙ line-fed ws o₀ at (to - 1) h (omega (arith, p .next));
+    }
+
+-- of no words there is nothing to write
+pub no-words : (ws : List ℕ) → length ws ≡ 0 → spaced ws ≡ wordsLine ws
+unfolding spaced wordsLine
+no-words [] e = refl
+no-words (w ∷ ws) e = absurd (omega arith)

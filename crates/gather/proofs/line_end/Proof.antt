@@ -1,52 +1,16 @@
--- From where the loop stands the line ends where it ends from its start: no line feed stands between.
+-- Past the bytes no line is left; before their end it is that of the two searches, one behind the other.
 -- Assumes nothing.
-use mathlib.Core.Path.{_≡_, ap}
+use mathlib.Core.Path.{ap}
 use native.Mathlib.Omega.{arith}
+use borrow.Author.Needs.{needs}
 use denote.Ref.{now}
-use Prim.Native.Nat.{ℕ, _+_, _-_}
-use lib.ListN.{length, drop}
-use Rattle.gather.specs.Pieces.{lineIn}
-use Rattle.gather.proofs.Pieces.{at-feed, at-other, at-end}
+use lib.ListN.{length}
+use Rattle.gather.proofs.Pieces.{at-end}
 use Rattle.gather.proofs.line_end.Statement.{statement}
 use Rattle.gather.proofs.line_end.Tie as tie
 
-abbrev Inv-loop : tie.InvT-loop
-Inv-loop bytes from at₀ at = (r : ℕ) → r ≡ at + length (lineIn (drop at bytes)) → r ≡ from + length (lineIn (drop from bytes))
-
-abbrev μ-loop : tie.MeasureT-loop
-μ-loop bytes from at₀ at = length bytes - at
-
-loop-holds : tie.Need-loop-holds Inv-loop μ-loop
-loop-holds c = λ r e. e
-
-shared-slice-read-if1 : tie.Need-shared-slice-read-if1 Inv-loop μ-loop
-shared-slice-read-if1 c = omega arith
-
-returns : tie.Need-returns Inv-loop μ-loop
-returns c = c .before .before .before .loop .inv _ (omega (arith, ap length (at-feed (now (c .before .before .before .before .args .bytes)) (c .before .before .before .loop .at) (omega arith) (c .if1 .taken))))
-
-add-at : tie.Need-add-at Inv-loop μ-loop
-add-at c = omega arith
-
-loop-less : tie.Need-loop-less Inv-loop μ-loop
-loop-less c = omega arith
-
-loop-again : tie.Need-loop-again Inv-loop μ-loop
-loop-again c = λ r e. c .before .before .before .loop .inv r (omega (arith, e, ap length (at-other (now (c .before .before .before .before .args .bytes)) (c .before .before .before .loop .at) (omega arith) (c .if1 .left))))
-
-returns-2 : tie.Need-returns-2 Inv-loop μ-loop
-returns-2 c = c .before .loop .inv _ (omega (arith, ap length (at-end (now (c .before .before .args .bytes)) (c .before .loop .at) (omega arith))))
+returns : tie.Need-returns
+returns c = omega (arith, ap length (at-end (now (c .before .before .args .bytes)) (c .before .before .args .from) (omega arith)))
 
 pub line-end-spec : {M : Type 1} → statement M
-line-end-spec =
-    tie.close
-    (tie.spec
-    Inv-loop
-    μ-loop
-    loop-holds
-    shared-slice-read-if1
-    returns
-    add-at
-    loop-less
-    loop-again
-    returns-2)
+line-end-spec = tie.close (tie.spec returns (λ c κs. search needs) (λ c κs. search needs) (λ c. search needs))

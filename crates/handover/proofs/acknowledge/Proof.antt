@@ -9,8 +9,8 @@ use Rattle.state.specs.Machine.{Machine, machine}
 use Rattle.state.specs.declared.node.Node.{Node}
 use Rattle.state.proofs.Read.{blank}
 use Rattle.promise.specs.Obeyed.{spoken}
-use Rattle.promise.proofs.Oldest.{lists-sound, acked-7, acked-14, acked-15, acked-0}
-use Rattle.handover.proofs.Served.{slot-out, Found, found, by-fit, refusing}
+use Rattle.promise.proofs.Oldest.{acked-7, acked-14, acked-15, acked-0}
+use Rattle.handover.proofs.Served.{slot-out, Found, found, takeable, taken-listed, by-fit, refusing}
 use Rattle.handover.proofs.acknowledge.Statement.{statement}
 use Rattle.handover.proofs.acknowledge.Tie as tie
 
@@ -72,25 +72,25 @@ returns-3 c =
 
 take-requires : tie.Need-take-requires
 take-requires c κs =
-    let s = c .before .before .before .before .before .before .before .before .before .before in
-    let a = s .args in
-    let e = c .before .before .before .before .before .before in
-    let f = here e in
-    (lists-sound full (given s) (s .pre) (a .node) (e .before .node-slot .result) (f .is) (f .slot) (node e) (f .at), omega arith, rw (f .at) (omega arith))
+    let e = c .before .before .before .before .before .before .before in
+    let s = e .before .before .before .before in
+    takeable (given s) (s .pre) (s .args .node) (e .before .node-slot .result) (here e) (omega arith)
 
-same-length : tie.Need-same-length
-same-length c = search needs
+taken-requires : tie.Need-taken-requires
+taken-requires c κs = omega arith
 
 returns-4 : tie.Need-returns-4
 unfolding spoken
 returns-4 c =
-    let s = c .before .before .before .before .before .before .before .before .before .before .before .before .before in
+    let k = c .before .before .before in
+    let g = k .before .before .before in
+    let e = g .before .before .before .before .before in
+    let s = e .before .before .before .before in
     let a = s .args in
-    let e = c .before .before .before .before .before .before .before .before .before in
     let f = here e in
     by-fit full (given s) (s .pre) (acknowledge (a .node) (a .number)) _ _
-    (acked-0 full (given s) (s .pre) (a .node) (a .number) (e .before .node-slot .result) (f .is) (f .slot) (node e) (f .at) (omega arith) (c .before .before .before .before .if3 .left) _ _
-    (c .before .before .take .ensures))
+    (acked-0 full (given s) (s .pre) (a .node) (a .number) (e .before .node-slot .result) (f .is) (f .slot) (node e) (f .at) (omega arith) (g .if3 .left) _ _
+    (taken-listed (given s) (s .pre) (a .node) (e .before .node-slot .result) f (omega arith) (k .take .ensures) (c .taken .ensures)))
 
 pub acknowledge-spec : {M : Type 1} → statement M
 acknowledge-spec =
@@ -106,5 +106,8 @@ acknowledge-spec =
     refused-requires-3
     returns-3
     take-requires
-    same-length
+    taken-requires
+    (λ c. search needs)
+    (λ c. search needs)
+    (λ c. search needs)
     returns-4)

@@ -1,53 +1,51 @@
-use Rattle.text.proofs.Writing.{put-then}
-use Rattle.text.specs.Text.{hexOf}
+use Rattle.text.proofs.Writing.{digit-small, lowest}
+use Prim.Native.Nat.{ℕ, _+_, _*_, _/_, _%_, _<_}
+use mathlib.Core.Path.{_≡_, refl}
+use mathlib.Core.List.{List, [], _∷_}
+use native.Mathlib.Omega.{arith}
+use native.Mathlib.Numerals.{towards-suc}
+use lib.ListN.{set, length-set}
 use borrow.Author.Needs.{needs}
+use Rattle.text.specs.Text.{Put, hexOf}
 use Rattle.text.proofs.put_hex.Statement.{statement}
 use Rattle.text.proofs.put_hex.Tie as tie
 
-digit-requires : tie.Need-digit-requires
-digit-requires c κs = search needs
-
-put-requires : tie.Need-put-requires
-put-requires c κs = search needs
-
-digit-requires-2 : tie.Need-digit-requires-2
-digit-requires-2 c κs = search needs
-
-put-requires-2 : tie.Need-put-requires-2
-put-requires-2 c κs = search needs
-
-digit-requires-3 : tie.Need-digit-requires-3
-digit-requires-3 c κs = search needs
-
-put-requires-3 : tie.Need-put-requires-3
-put-requires-3 c κs = search needs
-
-digit-requires-4 : tie.Need-digit-requires-4
-digit-requires-4 c κs = search needs
-
-put-requires-4 : tie.Need-put-requires-4
-put-requires-4 c κs = search needs
-
-same-length : tie.Need-same-length
-same-length c = search needs
+-- the bytes of one number, at the places that `sets` counts one by one
+four : {o : List ℕ} {at f p q r s : ℕ} → f ≡ p + 256 * q + 65536 * r + 16777216 * s → p < 256 → q < 256 → r < 256
+    → Put o at (p ∷ q ∷ r ∷ s ∷ [])
+    (set (set (set (set o at (f % 256)) (at + 1) (f / 256 % 256)) (at + 2) (f / 65536 % 256)) (at + 3) (f / 16777216)) (at + 4)
+four {o} {at} {f} {p} {q} {r} {s} e hp hq hr =
+    let bp : f % 256 ≡ p = lowest 256 (q + 256 * r + 65536 * s) (omega arith) hp in
+    let bq : f / 256 % 256 ≡ q = lowest 256 (r + 256 * s) (omega arith) hq in
+    let br : f / 65536 % 256 ≡ r = lowest 256 s (omega arith) hr in
+    let bs : f / 16777216 ≡ s = omega arith in
+    rw (bp, bq, br, bs) (record { next = refl; wrote = simp towards-suc })
 
 returns : tie.Need-returns
 unfolding hexOf
 returns c =
-    rw (← (c .before .before .before .before .before .before .before .before .before .before .before .before .before .before .before .before .before .before .digit .ensures), ← (c .before .before .before .before .before .before .before .before .before .before .before .before .before .digit2 .ensures), ← (c .before .before .before .before .before .before .before .before .digit3 .ensures), ← (c .before .before .before .digit4 .ensures))
-    (put-then (put-then (put-then (c .before .before .before .before .before .before .before .before .before .before .before .before .before .before .before .before .before .put .ensures) (c .before .before .before .before .before .before .before .before .before .before .before .before .put2 .ensures)) (c .before .before .before .before .before .before .before .put3 .ensures)) (c .before .before .put4 .ensures))
+    let w = c .before .before .args .w in
+    four (c .digits .ensures)
+    (digit-small (w / 4096) (search needs))
+    (digit-small (w / 256 % 16) (search needs))
+    (digit-small (w / 16 % 16) (search needs))
 
 pub put-hex-spec : {M : Type 1} → statement M
 put-hex-spec =
     tie.close
     (tie.spec
-    digit-requires
-    put-requires
-    digit-requires-2
-    put-requires-2
-    digit-requires-3
-    put-requires-3
-    digit-requires-4
-    put-requires-4
-    same-length
+    (λ c κs. search needs)
+    (λ c. search needs)
+    (λ c. search needs)
+    (λ c. search needs)
+    (λ c. search needs)
+    (λ c. simp length-set (omega arith))
+    (λ c. search needs)
+    (λ c. search needs)
+    (λ c. simp length-set (omega arith))
+    (λ c. search needs)
+    (λ c. search needs)
+    (λ c. simp length-set (omega arith))
+    (λ c. search needs)
+    (λ c. search needs)
     returns)
