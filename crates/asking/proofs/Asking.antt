@@ -1,19 +1,18 @@
 -- A command's turn, by what was said of it; and an answer that waits on a consistent machine is handed over.
 -- Assumes nothing.
 use Prim.Native.Nat.{ℕ, _≤_, _<_}
+use mathlib.Core.Bool.{cond}
 use mathlib.Core.Path.{_≡_, refl, sym, ap, _∙_, subst}
 use mathlib.Core.List.{List, [], _∷_}
 use native.Mathlib.Omega.{arith}
 use lib.Dec.{leb}
-use lib.ListN.{length, getD, take, drop}
-use lib.Seq.{take-at}
+use lib.ListN.{length, getD, set, take}
 use borrow.Author.Tests.{eq-eqb, ne-eqb, le-leb}
 use Rattle.units.proofs.Choice.{yes-cond, no-cond}
 use Rattle.units.specs.Word.{lsb}
-use Rattle.units.specs.declared.Words.{Words}
 use Rattle.units.specs.declared.stamp.Stamp.{Stamp}
 use Rattle.units.specs.declared.Form.the-variants.{Register}
-use Rattle.meaning.specs.Bench.{Bench}
+use Rattle.meaning.specs.Bench.{Bench, full, isNode}
 use Rattle.meaning.specs.Command.{bodyOf}
 use Rattle.meaning.specs.Response.{bears}
 use Rattle.meaning.specs.Gateway.{Gateway}
@@ -24,12 +23,17 @@ use Rattle.state.specs.State.{freshNode}
 use Rattle.state.specs.Machine.{Machine, machine, meaning, nodeSlot}
 use Rattle.state.specs.Consistent.{unfit}
 use Rattle.state.specs.declared.State.{State}
+use Rattle.state.proofs.Read.{blank, node-any}
+use Rattle.promise.proofs.Parts.{parts}
+use Rattle.promise.proofs.Tables.{node-inside}
 use Rattle.state.specs.declared.node.Node.{Node}
-use Rattle.promise.specs.Obeyed.{spoken, Does, expected, replied, written, Collects}
+use Rattle.promise.specs.Obeyed.{spoken, Does}
 use Rattle.promise.specs.declared.Reply.{Reply}
-use Rattle.promise.specs.declared.Handout.{Handout}
 use Rattle.promise.proofs.Promises.{saying, by-step}
-use Rattle.promise.proofs.Steps.{collect-0}
+use Rattle.promise.proofs.Steps.{collect-0, acknowledge-0}
+use Rattle.store.specs.Changes.{withLists}
+use Rattle.handover.specs.Handed as H
+use Rattle.handover.specs.declared.Handed.{Handed}
 use Rattle.promise.proofs.Oldest.{pending-long, takes, oldest, oldest-first, shown-bare}
 use Rattle.promise.proofs.Chains.{Stepped, stepped}
 use Rattle.text.specs.Text.{wordsLine}
@@ -86,50 +90,48 @@ module _ (b : Bench) (n : ℕ) (m : Machine) where
       } in
       ap over (h .gives 134 (omega arith))
 
-  -- what collecting it hands back and writes
-  pub record Gathered (r : Handout) (out : List ℕ) (w : List ℕ) : Type 0 where
-    pub hands : Hands w
-    pub reply : r ≡ Handout.Handed (record { 0 = length w }) number
-    pub output : take (length w) out ≡ w
-
-  pub gathered : {r : Handout} {out out′ : List ℕ} → Waiting b n m → longest ≤ length out
-      → Collects b (collect Register n (length out)) m r out out′ → (w : List ℕ) × Gathered r out′ w
-  unfolding expected replied written
-  gathered {r} {out} {out′} h l c =
-      let p = hands h in
-      let s : expected b (collect Register n (length out)) m .said ≡ answered (handed (p .0) number) =
-      ap (λ (o : Outcome). o .said) (yes-cond _ (eq-eqb _ _ (h .sound)) ∙ p .1 .gives (length out) l) in (
-        p .0,
-        record {
-          hands = p .1;
-          reply = c .reply ∙ ap replied s;
-          output = ap (take (length (p .0))) (c .output ∙ ap (λ (z : Said). written z out) s) ∙ take-at (p .0) (drop (length (p .0)) out) (length (p .0)) refl;
-        },
-      )
-
-  -- so that it isn't refused
-  pub never-refused : {r : Handout} {out w : List ℕ} {k : ℕ} → Gathered r out w → r ≡ Handout.Refused k → ⊥
-  never-refused {r} {out} {w} {k} a e =
-      let z : Handout.Refused k ≡ Handout.Handed (record { 0 = length w }) number = sym e ∙ a .reply in
-      let y : _≡_ {A = ℕ} 0 1 = cc in omega arith
-
-  -- and it is the turn's line, when it has been acknowledged
-  pub asks-handed : {r : Handout} {out w : List ℕ} {words : Words} {h : ℕ} {said : Said} {s : State} {store memory : List ℕ}
-      → Waiting b n m → Gathered r out w → r ≡ Handout.Handed words h → Does b (step b (meaning b m) (acknowledge n h)) m said (machine s store memory)
-      → Asks b (handedOver b n (meaning b m)) (record { state = s; refusal = 0; words = words }) out (machine s store memory)
+  -- it is the turn's line, once it is handed over
+  pub asks-handed : Waiting b n m → {i : ℕ} {store′ out : List ℕ} {r : Handed} → H.Hands b n i (m .state) (m .store) store′ (m .memory) out r
+      → {s : State} → s ≡ withLists (m .state) (set (m .state .nodes) i (r .node)) (r .held)
+      → Asks b (handedOver b n (meaning b m)) (record { state = s; refusal = 0; words = r .words }) out (machine s store′ (m .memory))
   unfolding replyLine
-  asks-handed {r} {out} {w} {words} {h} {said} {s} {store} {memory} q a e d =
-      let z : Handout.Handed words h ≡ Handout.Handed (record { 0 = length w }) number = sym e ∙ a .reply in
-      let x : words .0 ≡ length w = cc in
-      let y : h ≡ number = cc in
-      let t = took (q .sound) d in
-      asks-as (handed-over (a .hands)) (record {
-        line = ap wordsLine (ap (λ (k : ℕ). take k out) x ∙ a .output);
-        after = t .means ∙ ap (λ (k : ℕ). (step b (meaning b m) (acknowledge n k)) .next) y;
-        sound = t .fit;
-        few = omega (arith, x, a .hands .few);
+  asks-handed q {i} {store′} {out} {r} h {s} e =
+      let p = hands q in
+      let w : List ℕ = p .0 in
+      let z : w ∷ p .1 .first .0 ≡ take (r .words .0) out ∷ h .others = sym (p .1 .first .1) ∙ h .oldest in
+      let y : take (r .words .0) out ≡ w = cc in
+      let o = acknowledge-0 b (meaning b m) n number (q .node) w (p .1 .first .0) (p .1 .first .1) (eq-eqb number number refl) in
+      subst (λ (s : State). Asks b (handedOver b n (meaning b m)) (record { state = s; refusal = 0; words = r .words }) out (machine s store′ (m .memory))) (sym e)
+      (asks-as (handed-over (p .1)) (record {
+        line = ap wordsLine y;
+        after = h .means ∙ ap (λ (o : Outcome). o .next) (sym o);
+        sound = h .fit;
+        few = h .few;
         number = omega arith;
-      })
+      }))
+
+-- its list's parts, as code takes them out
+module _ (m : Machine) (n i : ℕ) (q : Waiting full n m) (e : i ≡ cond (isNode full n) (nodeSlot full n) 17) where
+  pub slot-is : nodeSlot full n ≡ i
+  slot-is = sym (e ∙ yes-cond 17 (q .node))
+
+  pub inside : i < 17
+  inside = omega (arith, slot-is, node-inside full n 17 (q .node) refl)
+
+  pub slot : H.Slot i (getD (m .state .nodes) i blank) (m .state .held) (m .state)
+  slot = record { node = sym (node-any (m .state .nodes) i (omega (arith, inside, parts full m (q .sound) .eachNode))); helds = refl }
+
+  pub waits-here : H.Waits full i (getD (m .state .nodes) i blank) (m .state .held) (m .store)
+  waits-here = record {
+    number = n;
+    is = q .node;
+    at = slot-is;
+    state = m .state;
+    memory = m .memory;
+    slot = slot;
+    fit = q .sound;
+    some = omega (arith, q .some, pending-long full m (q .sound) n i (q .node) slot-is _ (slot .node));
+  }
 
 -- ---- a command's turn
 module _ (b : Bench) (m m′ : Machine) (t : Stamp) (ws : List ℕ) (fits : unfit b m ≡ 0) (reply : Reply)

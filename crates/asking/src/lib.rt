@@ -1,8 +1,7 @@
 // A command of the night: played, its answer collected in register form and acknowledged.
-use handover::acknowledge;
-use handover::collect;
+use answers::slots::node_slot;
+use handover::hand;
 use obey::obey;
-use promise::Handout;
 use promise::Reply;
 use state::State;
 use units::Form;
@@ -37,23 +36,26 @@ fn refused(state: State, refusal: u8) -> Asked
     }
 }
 
-// The answer that waits at a node: collected and acknowledged.
+// The answer that waits at a node: collected and acknowledged, on its list alone.
 fn hand_over(s: State, node: u8, store: &mut [u16], plaques: &[u8], answer: &mut [u16]) -> Asked
     requires { ⌜ Waiting full node (machine s (now store) (now plaques)) ⌝ }
     requires { ⌜ longest ≤ length (now answer) ⌝ }
     ensures { λ r. ⌜ Asks full (handedOver full node (meaning full (machine s (now (store .entry)) (now (plaques .entry))))) r (now (answer .exit)) (machine (r .state) (now (store .exit)) (now (plaques .entry))) ⌝ }
 {
-    match collect(s, Form::Register, node, store, plaques, answer) {
-        Handout::Refused(k) => refused(s, k),
-        Handout::Handed(words, number) => {
-            let called = acknowledge(s, node, number, store, plaques);
-            let next = called.state;
-            Asked {
-                state: next,
-                refusal: 0,
-                words,
-            }
-        }
+    let i = node_slot(node);
+    let own = s.nodes[i];
+    let held = s.held;
+    let h = hand(i, own, held, store, answer);
+    let after = h.node;
+    let words = h.held;
+    let mut u = s;
+    u.nodes[i] = after;
+    u.held = words;
+    let few = h.words;
+    Asked {
+        state: u,
+        refusal: 0,
+        words: few,
     }
 }
 

@@ -79,6 +79,7 @@ abbrev pub seen : ℕ → ℕ → Stamp → ℕ → Reader → List ℕ → Loca
 seen count n t clock x region = looked n (bare count) t clock (readerOf x region) (fieldOf (x .plaque)) (modeOf (x .reading) (x .report))
 
 -- one that is not quiet; the region stays as it is
-pub record Looks (b : Bench) (count n : ℕ) (t : Stamp) (clock : ℕ) (x : Reader) (region : List ℕ) (d : Decided) (answer : List ℕ) : Type 0 where
+pub record Looks (b : Bench) (count n : ℕ) (t : Stamp) (clock : ℕ) (x : Reader) (region : List ℕ) (d : Decided) (answer : List ℕ)
+    : Type 0 where
   pub serves : Serves b n (seen count n t clock x region) [] region d answer
   pub kept : d .change ≡ C.Kept

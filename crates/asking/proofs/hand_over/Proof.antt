@@ -1,67 +1,56 @@
-use Rattle.asking.proofs.Asking.{gathered, never-refused, asks-handed}
+use native.Mathlib.Omega.{arith}
+use mathlib.Core.Path.{refl}
+use denote.Ref.{now}
 use Rattle.meaning.specs.Bench.{full}
 use Rattle.state.specs.Machine.{Machine, machine}
-use denote.Ref.{now}
+use Rattle.asking.proofs.Asking.{inside, slot-is, slot, waits-here, asks-handed}
 use borrow.Author.Needs.{needs}
 use Rattle.asking.proofs.hand_over.Statement.{statement}
 use Rattle.asking.proofs.hand_over.Tie as tie
 
-collect-requires : tie.Need-collect-requires
-collect-requires c κs = search needs
+abbrev given : tie.Start → Machine
+given s = machine (s .args .t1) (now (s .args .store)) (now (s .args .plaques))
 
-enum-known-k : tie.Need-enum-known-k
-enum-known-k c = search needs
+mul-own : tie.Need-mul-own
+mul-own c =
+    let s = c .before .before .before .before in
+    let i = inside (given s) (s .args .node) _ (s .pre .0) (c .node-slot .ensures) in
+    search needs
 
-refused-requires : tie.Need-refused-requires
-refused-requires c κs = search needs
+element-own : tie.Need-element-copy-out-own
+element-own c = let s = c .before .before .before .before in inside (given s) (s .args .node) _ (s .pre .0) (c .node-slot .ensures)
 
-enum-known-words : tie.Need-enum-known-words
-enum-known-words c = search needs
+hand-requires : tie.Need-hand-requires
+hand-requires c κs =
+    let k = c .before .before .before .before in
+    let s = k .before .before .before .before in
+    (waits-here (given s) (s .args .node) _ (s .pre .0) (k .node-slot .ensures), s .pre .1)
 
-acknowledge-requires : tie.Need-acknowledge-requires
-acknowledge-requires c κs = search needs
+mul-after : tie.Need-mul-after
+mul-after c =
+    let k = c .before .before .before .before .before .before .before .before .before .before .before in
+    let s = k .before .before .before .before in
+    let i = inside (given s) (s .args .node) _ (s .pre .0) (k .node-slot .ensures) in
+    search needs
 
-same-length : tie.Need-same-length
-same-length c = search needs
-
-same-length-2 : tie.Need-same-length-2
-same-length-2 c = search needs
+element-after : tie.Need-element-set-from-after
+element-after c =
+    let k = c .before .before .before .before .before .before .before .before .before .before .before in
+    let s = k .before .before .before .before in
+    inside (given s) (s .args .node) _ (s .pre .0) (k .node-slot .ensures)
 
 returns : tie.Need-returns
 returns c =
-    let s = c .before .before .before .before .before .before .before .before .before .before .before .before in let a = s .args in
-    let m : Machine = machine (a .s) (now (a .store)) (now (a .plaques)) in
-    let g = gathered full (a .node) m (s .pre .0) (s .pre .1) (c .before .before .before .before .before .before .collect .ensures) in
-    absurd (never-refused full (a .node) m (g .1) (c .before .before .k .given .1))
-
-same-length-3 : tie.Need-same-length-3
-same-length-3 c = search needs
-
-same-length-4 : tie.Need-same-length-4
-same-length-4 c = search needs
-
-returns-2 : tie.Need-returns-2
-returns-2 c =
-    let s = c .before .before .before .before .before .before .before .before .before .before .before .before .before .before .before
-    .before in let a = s .args in
-    let m : Machine = machine (a .s) (now (a .store)) (now (a .plaques)) in
-    let g = gathered full (a .node) m (s .pre .0) (s .pre .1) (c .before .before .before .before .before .before .before .before .before
-    .before .collect .ensures) in
-    asks-handed full (a .node) m (s .pre .0) (g .1) (c .before .before .before .before .before .before .words .given .1) (c .before
-    .before .before .acknowledge .ensures)
+    let h = c .before .before .before .before .before .before .before in
+    let k = h .before .before .before .before .before in
+    let s = k .before .before .before .before in
+    let a = s .args in
+    let e = k .node-slot .ensures in
+    asks-handed full (a .node) (given s) (s .pre .0)
+    (h .hand .ensures (a .node) (s .pre .0 .node) (slot-is (given s) (a .node) _ (s .pre .0) e) (a .t1) (now (a .plaques))
+    (slot (given s) (a .node) _ (s .pre .0) e) (s .pre .0 .sound)) refl
 
 pub hand-over-spec : {M : Type 1} → statement M
 hand-over-spec =
     tie.close
-    (tie.spec
-    collect-requires
-    enum-known-k
-    refused-requires
-    enum-known-words
-    acknowledge-requires
-    same-length
-    same-length-2
-    returns
-    same-length-3
-    same-length-4
-    returns-2)
+    (tie.spec (λ c κs. search needs) mul-own element-own hand-requires mul-after element-after (λ c. search needs) (λ c. search needs) returns)
