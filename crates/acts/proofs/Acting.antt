@@ -10,6 +10,7 @@ use Rattle.units.specs.Stamp.{isStamp}
 use Rattle.units.specs.declared.Words.{Words}
 use Rattle.units.specs.declared.stamp.Stamp.{Stamp}
 use Rattle.meaning.specs.Bench.{full, hub}
+use Rattle.meaning.specs.Packet.{overall}
 use Rattle.meaning.specs.Gateway as M
 use Rattle.meaning.specs.Gateway.{Gateway, setReader}
 use Rattle.meaning.specs.Call.{Outcome, answered, Local, Desk, quiet, fromDesk, lifted, settled, obeyed, looked, governed}
@@ -50,7 +51,7 @@ use Rattle.acts.proofs.Counts.{obeyed-count, looked-count, governed-cou
 
 -- ---- at a reader
 module _ {n : ℕ} {own : Node} {x : Reader} {held : List Words} {store memory : List ℕ} (a : Seatable full n own x held store memory) where
-  pub readable : {t : Stamp} → isStamp t ≡ true → {room : ℕ} → 134 ≤ room
+  pub readable : {t : Stamp} → isStamp t ≡ true → {room : ℕ} → overall 255 ≤ room
       → Readable full n t x (length (Lent n (a .is) memory (memory-long a))) room
   readable g l = record {
     reader = a .is;
@@ -153,7 +154,7 @@ module _ {n : ℕ} {own : Node} {x : Reader} {held : List Words} {store memory :
 
 -- ---- at the gateway's own node
 module _ {nodes : List Node} {held : List Words} {name : Name} {store : List ℕ} (a : Houseable full nodes held name store) where
-  pub governable : (t : Stamp) (k : Kind) (c : Command) (ws : List ℕ) → isStamp t ≡ true → ToldOf full k c ws → {room : ℕ} → 134 ≤ room
+  pub governable : (t : Stamp) (k : Kind) (c : Command) (ws : List ℕ) → isStamp t ≡ true → ToldOf full k c ws → {room : ℕ} → overall 255 ≤ room
       → Governable full t k c ws name room
   governable t k c ws g o {room} l =
       let p = parts full (machine (a .state) store (a .memory)) (a .fit) in

@@ -19,7 +19,7 @@ use Rattle.meaning.specs.Response.{amountWrong, errorWrong, respondRefusal, res
 use Rattle.meaning.specs.declared.packet.Response.{Response}
 use Rattle.meaning.proofs.ResponseLaws.{count-responded, writes, read-responded}
 use Rattle.lists.proofs.Answers.{read-formed}
-use Rattle.answers.specs.Say.{Sayable, Says}
+use Rattle.answers.specs.Say.{good, Sayable, Says}
 
 module _ (r : Response) (bs : List ℕ) (room : ℕ) (a : Sayable full r (length bs) room) where
   pub short : length bs ≤ 255
@@ -56,11 +56,11 @@ module _ (r : Response) (bs : List ℕ) (room : ℕ) (a : Sayable full r (length
       record { inside = omega arith; words = same; formed = ap (wellFormed full (r .node)) same ∙ formed e n }
 
 -- a response without an error
-pub good-sayable : {r : Response} {echo count n : ℕ} {t : Stamp} → r ≡ record { error = false; echo = echo; count = count; node = n; stamp = t } → isNode full n ≡ true
-    → isStamp t ≡ true → (bytes : ℕ) → bytes ≤ 255 → {room : ℕ} → 134 ≤ room → Sayable full r bytes room
+pub good-sayable : {r : Response} {echo count n : ℕ} {t : Stamp} → r ≡ good count n t echo → isNode full n ≡ true → isStamp t ≡ true
+    → (bytes : ℕ) → bytes ≤ 255 → {room : ℕ} → overall 255 ≤ room → Sayable full r bytes room
 unfolding amountWrong
-good-sayable e is good bytes h l = record {
-  stamp = ap (λ (r : Response). isStamp (r .stamp)) e ∙ good;
+good-sayable e is valid bytes h l = record {
+  stamp = ap (λ (r : Response). isStamp (r .stamp)) e ∙ valid;
   node = ap (λ (r : Response). isNode full (r .node)) e ∙ is;
   amount = ap (λ (r : Response). amountWrong (r .error) bytes) e ∙ no-or (le-ltb 255 bytes h);
   long = l;

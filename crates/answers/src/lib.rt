@@ -10,15 +10,29 @@ use state::State;
 use units::Bytes;
 use units::Form;
 use units::Words;
+use units::stamp::Stamp;
 ghost use mathlib.Core.Path.{_≡_};
 ghost use lib.ListN.{length};
 ghost use Rattle.meaning.specs.Bench.{full};
-ghost use Rattle.answers.specs.Say.{Sayable, Says};
+ghost use Rattle.answers.specs.Say.{good, Sayable, Says};
 
 // A call is refused with the paper's number; or an answer is due.
 pub enum Verdict {
     Refused(u8),
     Due,
+}
+
+// The answer of a node with so many earlier ones, without an error.
+pub fn good(count: u8, node: u8, t: Stamp, echo: u8) -> Response
+    ensures { λ r. ⌜ r ≡ good count node t echo ⌝ }
+{
+    Response {
+        error: false,
+        echo,
+        count,
+        node,
+        stamp: t,
+    }
 }
 
 // A response, written to the front of the lent answer; the result counts its words.

@@ -47,15 +47,15 @@ fn hand_over(s: State, node: u8, store: &mut [u16], plaques: &[u8], answer: &mut
     let held = s.held;
     let h = hand(i, own, held, store, answer);
     let after = h.node;
-    let words = h.held;
+    let less = h.held;
     let mut u = s;
     u.nodes[i] = after;
-    u.held = words;
-    let few = h.words;
+    u.held = less;
+    let words = h.words;
     Asked {
         state: u,
         refusal: 0,
-        words: few,
+        words,
     }
 }
 

@@ -2,7 +2,7 @@
 -- Assumes nothing.
 use Prim.Native.Nat.{ℕ, _≤_}
 use mathlib.Core.Path.{_≡_, refl, sym, ap, _∙_, subst}
-use mathlib.Core.Bool.{true, false, not}
+use mathlib.Core.Bool.{true, not}
 use mathlib.Core.List.{List, [], _∷_}
 use native.Mathlib.Omega.{arith}
 use lib.Dec.{T, eqb}
@@ -14,7 +14,7 @@ use Rattle.units.specs.Packing.{bytesOf, onto}
 use Rattle.units.specs.declared.Words.{Words}
 use Rattle.units.specs.declared.stamp.Stamp.{Stamp}
 use Rattle.units.proofs.Arms.{keys}
-use Rattle.meaning.specs.Bench.{full}
+use Rattle.meaning.specs.Bench.{full, hub}
 use Rattle.meaning.specs.Response.{responseBody, wellFormed}
 use Rattle.meaning.specs.Gateway.{emptied, swept}
 use Rattle.meaning.specs.Table.{rowOf, carried}
@@ -32,16 +32,12 @@ use Rattle.store.specs.Swept.{broomOf}
 use Rattle.store.specs.declared.Broom.{Broom}
 use Rattle.store.specs.declared.Broom.the-variants as B
 use Rattle.answers.specs.Ordered.{loadOf}
-use Rattle.answers.specs.Say.{Says}
+use Rattle.answers.specs.Say.{good, Says}
 use Rattle.answers.specs.Decided.{bare, told, Formed}
 use Rattle.answers.specs.declared.Verdict.the-variants as W
 use Rattle.desk.specs.Ruled.{titleOf, Told, ToldOf, Governable, Rules, Governs}
 use Rattle.desk.specs.declared.Ruled.{Ruled}
 use Rattle.desk.proofs.Names.{blank, written, name-ok, name-long, name-is}
-
--- the answer without an error, as the code makes it
-abbrev good : ℕ → Stamp → ℕ → Response
-good count t echo = record { error = false; echo = echo; count = count; node = 32; stamp = t }
 
 abbrev dueOf : Name → Broom → Words → Ruled
 dueOf name broom w = record { name = name; broom = broom; words = w; verdict = W.Due }
@@ -51,8 +47,8 @@ saysOf broom name w = Local.due (record { broom = broomOf broom; title = titleOf
 
 -- ---- an answer that is due: once for all commands
 rules-due : {l : Local Desk} {out : List ℕ} {d : Ruled} {name : Name} {broom : Broom} {w : Words} {r : Response} {bs : List ℕ}
-    → (count : ℕ) (t : Stamp) (echo : ℕ) → r ≡ good count t echo → Says full r bs (w .0) out → d ≡ dueOf name broom w → nameOk name ≡ true → length (name .bytes) ≡ 64
-    → saysOf broom name (responseBody (good count t echo) bs) ≡ l → Rules full l d out
+    → (count : ℕ) (t : Stamp) (echo : ℕ) → r ≡ good count hub t echo → Says full r bs (w .0) out → d ≡ dueOf name broom w → nameOk name ≡ true → length (name .bytes) ≡ 64
+    → saysOf broom name (responseBody (good count hub t echo) bs) ≡ l → Rules full l d out
 unfolding told Formed
 rules-due {l} {out} {d} {name} {broom} {w} {r} {bs} count t echo e s f o wide q =
     subst (λ (d : Ruled). Rules full l d out) (sym f)
@@ -75,46 +71,46 @@ name-whole m ws g e = subst (λ (k : OfGateway). ToldOf full (K.Gateway k) m ws)
 -- ---- a command of the gateway, by its kind; r is the answer that was said, d what was handed back
 module _ (count : ℕ) (name : Name) (t : Stamp) (k : OfGateway) (m : Command) (ws : List ℕ) {room : ℕ}
     (g : Governable full t (K.Gateway k) m ws name room) {out : List ℕ} {d : Ruled} {w : Words} {r : Response} where
-  kept : {broom : Broom} {bs : List ℕ} (c echo : ℕ) {j : OfGateway} → k ≡ j → r ≡ good c t echo → Says full r bs (w .0) out
+  kept : {broom : Broom} {bs : List ℕ} (c echo : ℕ) {j : OfGateway} → k ≡ j → r ≡ good c hub t echo → Says full r bs (w .0) out
       → d ≡ dueOf name broom w
-      → saysOf broom name (responseBody (good c t echo) bs) ≡ governed (bare count) (titleOf name) t (K.Gateway j) (loadOf full m ws)
+      → saysOf broom name (responseBody (good c hub t echo) bs) ≡ governed (bare count) (titleOf name) t (K.Gateway j) (loadOf full m ws)
       → Governs full count name t (K.Gateway k) m ws d out
   kept c echo e f s p q =
       rules-due c t echo f s p (g .inOrder) (g .wide)
       (q ∙ ap (λ (k : OfGateway). governed (bare count) (titleOf name) t (K.Gateway k) (loadOf full m ws)) (sym e))
 
   -- 11
-  pub name-told : k ≡ GetName → r ≡ good count t 0x11 → Says full r (titleOf name) (w .0) out → d ≡ dueOf name B.Nothing w
+  pub name-told : k ≡ GetName → r ≡ good count hub t 0x11 → Says full r (titleOf name) (w .0) out → d ≡ dueOf name B.Nothing w
       → Governs full count name t (K.Gateway k) m ws d out
   unfolding governed ruled answer broomOf
   name-told e f s p = kept count 0x11 e f s p refl
 
   -- 61: its own answer is the first after the counts start again
-  pub restarted : k ≡ ResetGateway → r ≡ good 0 t 0x61 → Says full r [] (w .0) out → d ≡ dueOf name B.Reset w
+  pub restarted : k ≡ ResetGateway → r ≡ good 0 hub t 0x61 → Says full r [] (w .0) out → d ≡ dueOf name B.Reset w
       → Governs full count name t (K.Gateway k) m ws d out
   unfolding governed ruled answer broomOf swept emptied
   restarted e f s p = kept 0 0x61 e f s p refl
 
   -- 79
-  pub cleared : k ≡ Clear → r ≡ good count t 0x79 → Says full r [] (w .0) out → d ≡ dueOf name B.Clear w
+  pub cleared : k ≡ Clear → r ≡ good count hub t 0x79 → Says full r [] (w .0) out → d ≡ dueOf name B.Clear w
       → Governs full count name t (K.Gateway k) m ws d out
   unfolding governed ruled answer broomOf swept emptied
   cleared e f s p = kept count 0x79 e f s p refl
 
   -- 21: bytes are what came, over zeros
-  pub renamed : {bytes : List ℕ} → k ≡ SetName → r ≡ good count t 0x21 → Says full r [] (w .0) out
+  pub renamed : {bytes : List ℕ} → k ≡ SetName → r ≡ good count hub t 0x21 → Says full r [] (w .0) out
       → bytes ≡ onto (bytesOf ws) (take (m .size) blank) → d ≡ dueOf (written (m .size) bytes) B.Nothing w → Governs full count name t (K.Gateway k) m ws d out
   unfolding governed ruled answer broomOf loadOf
   renamed e f s u p =
       let z = name-whole m ws g e in
       let c = carried (rowOf full (m .command)) m in
       rules-due count t 0x21 f s p (name-ok _ c _ (z .0) (z .1) u) (name-long _ c _ (z .0) (z .1) u)
-      (ap (λ (s : List ℕ). Local.due (record { broom = broomOf B.Nothing; title = s }) (responseBody (good count t 0x21) []))
+      (ap (λ (s : List ℕ). Local.due (record { broom = broomOf B.Nothing; title = s }) (responseBody (good count hub t 0x21) []))
       (name-is _ c _ (z .0) (z .1) u)
       ∙ ap (λ (k : OfGateway). governed (bare count) (titleOf name) t (K.Gateway k) (loadOf full m ws)) (sym e))
 
   -- 60
-  pub nameless : {n : Name} → k ≡ Initialise → r ≡ good count t 0x60 → Says full r [] (w .0) out
+  pub nameless : {n : Name} → k ≡ Initialise → r ≡ good count hub t 0x60 → Says full r [] (w .0) out
       → n ≡ record { length = record { 0 = 0 }; bytes = blank } → d ≡ dueOf n B.Nothing w → Governs full count name t (K.Gateway k) m ws d out
   unfolding governed ruled answer broomOf nameOk every
   nameless e f s q p =

@@ -1,9 +1,9 @@
 // What the gateway makes of an accepted command of its own, decided on its name alone. Nothing is changed here but the lent answer; room
 // is judged, and the change made, where the call is settled.
 use answers::Verdict;
+use answers::good;
 use answers::say;
 use meaning::packet::Command;
-use meaning::packet::Response;
 use meaning::table::Kind;
 use meaning::table::OfGateway;
 use state::Name;
@@ -13,7 +13,6 @@ use units::Words;
 use units::packing::unpack;
 use units::stamp::Stamp;
 ghost use mathlib.Core.Path.{_≡_};
-ghost use mathlib.Core.Bool.{false};
 ghost use mathlib.Core.List.{[]};
 ghost use lib.ListN.{length, replicate};
 ghost use Rattle.meaning.specs.Bench.{full};
@@ -36,19 +35,6 @@ fn due(name: Name, broom: Broom, words: Words) -> Ruled
         broom,
         words,
         verdict: Verdict::Due,
-    }
-}
-
-// The answer without an error.
-fn good(count: u8, t: Stamp, echo: u8) -> Response
-    ensures { λ r. ⌜ r ≡ record { error = false; echo = echo; count = count; node = 32; stamp = t } ⌝ }
-{
-    Response {
-        error: false,
-        echo,
-        count,
-        node: 32,
-        stamp: t,
     }
 }
 
@@ -79,14 +65,14 @@ fn rule(
         OfGateway::GetName => {
             let bytes = name.bytes;
             let length = name.length.0 as usize;
-            let said = say(good(count, t, 0x11), &bytes[..length], answer);
+            let said = say(good(count, 32, t, 0x11), &bytes[..length], answer);
             due(name, Broom::Nothing, said)
         }
         OfGateway::SetName => {
             let mut bytes = [0u8; 64];
             let length = m.size as usize;
             unpack(words, &mut bytes[..length]);
-            let said = say(good(count, t, 0x21), b"", answer);
+            let said = say(good(count, 32, t, 0x21), b"", answer);
             let title = Name {
                 length: Bytes(m.size),
                 bytes,
@@ -94,12 +80,16 @@ fn rule(
             due(title, Broom::Nothing, said)
         }
         OfGateway::Initialise => {
-            let said = say(good(count, t, 0x60), b"", answer);
+            let said = say(good(count, 32, t, 0x60), b"", answer);
             due(no_name(), Broom::Nothing, said)
         }
         // Its own answer is the first after the counts start again.
-        OfGateway::ResetGateway => due(name, Broom::Reset, say(good(0, t, 0x61), b"", answer)),
-        OfGateway::Clear => due(name, Broom::Clear, say(good(count, t, 0x79), b"", answer)),
+        OfGateway::ResetGateway => due(name, Broom::Reset, say(good(0, 32, t, 0x61), b"", answer)),
+        OfGateway::Clear => due(
+            name,
+            Broom::Clear,
+            say(good(count, 32, t, 0x79), b"", answer),
+        ),
     }
 }
 

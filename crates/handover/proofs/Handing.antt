@@ -1,11 +1,11 @@
 -- The oldest answer handed over: on any machine whose parts were given.
 -- Assumes nothing.
-use Prim.Native.Nat.{ℕ, _+_, _≤_, _<_}
+use Prim.Native.Nat.{ℕ, _<_}
 use mathlib.Core.Path.{_≡_, refl, sym, ap, _∙_, subst}
 use mathlib.Core.Bool.{true}
 use mathlib.Core.List.{List, _∷_}
 use native.Mathlib.Omega.{arith}
-use lib.ListN.{length, getD, take, drop}
+use lib.ListN.{getD, take, drop}
 use lib.Seq.{take-at}
 use Rattle.units.specs.declared.Words.{Words}
 use Rattle.meaning.specs.Bench.{full, isNode}
@@ -21,7 +21,7 @@ use Rattle.store.specs.Swept.{Takeable, Takes}
 use Rattle.promise.proofs.Parts.{parts}
 use Rattle.promise.proofs.Tables.{node-inside}
 use Rattle.promise.proofs.Oldest.{oldest, oldest-first, taken-changed, bare-written}
-use Rattle.handover.specs.Handed.{Slot, Waits, Hands}
+use Rattle.handover.specs.Handed.{Slot, Hands}
 use Rattle.handover.proofs.Served.{Found, Stands, stands, takeable, taken-listed}
 
 module _ {i : ℕ} {own : Node} {held : List Words} (s : State) (store memory : List ℕ) (fit : unfit full (machine s store memory) ≡ 0) (n : ℕ)

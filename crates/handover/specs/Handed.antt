@@ -5,10 +5,9 @@ use Prim.Native.Nat.{ℕ, _≤_, _<_}
 use mathlib.Core.Path.{_≡_}
 use mathlib.Core.Bool.{true}
 use mathlib.Core.List.{List, _∷_}
-use lib.ListN.{length, getD, set, take}
+use lib.ListN.{getD, set, take}
 use Rattle.units.specs.declared.Words.{Words}
 use Rattle.meaning.specs.Bench.{Bench, isNode}
-use Rattle.meaning.specs.Gateway as M
 use Rattle.meaning.specs.Gateway.{setNode, taken}
 use Rattle.meaning.specs.Packet.{overall}
 use Rattle.state.specs.State.{freshNode}

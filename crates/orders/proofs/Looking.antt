@@ -3,7 +3,7 @@
 use Prim.Native.Nat.{ℕ, _+_, _-_, _≤_}
 use mathlib.Core.Path.{_≡_, refl, sym, ap, _∙_}
 use mathlib.Core.Bool.{Bool, true, false, not, _||_}
-use mathlib.Core.List.{List, []}
+use mathlib.Core.List.{List}
 use native.Mathlib.Omega.{arith}
 use lib.Dec.{ltb, eqb}
 use lib.ListN.{length, take, drop}
@@ -21,13 +21,13 @@ use Rattle.state.specs.Machine.{readerOf, fieldOf, modeOf, reportOf}
 use Rattle.state.specs.declared.reader.Reader.{Reader}
 use Rattle.promise.proofs.Readers.{withReading, reader-parts, reading-range, reported-ok, reported-means}
 use Rattle.promise.proofs.Locals as L
-use Rattle.answers.specs.Say.{Sayable, Says}
+use Rattle.answers.specs.Say.{good, Sayable, Says}
 use Rattle.answers.specs.Decided.{bare}
 use Rattle.answers.proofs.Cuts.{cut}
 use Rattle.orders.specs.Decided.{altered, Suits, Readable, quietly, seen, Looks}
 use Rattle.orders.specs.declared.Change.the-variants as C
 use Rattle.orders.specs.declared.Decided.{Decided}
-use Rattle.orders.proofs.Serving.{refusal, reply, good, serves-refused, serves-good, is-past, not-past, field, in-region, part-sayable}
+use Rattle.orders.proofs.Serving.{refusal, reply, serves-refused, serves-good, is-past, not-past, field, in-region, part-sayable}
 
 -- the reader, once its plaque is reported
 abbrev pub withReport : Reader → ℕ → Reader

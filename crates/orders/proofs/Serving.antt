@@ -19,7 +19,7 @@ use Rattle.meaning.specs.Response.{responseBody, wellFormed, amountWrong}
 use Rattle.meaning.specs.Table.{rowOf, carried}
 use Rattle.meaning.specs.Gateway as M
 use Rattle.meaning.specs.Gateway.{plaque}
-use Rattle.meaning.specs.Call.{quiet, Local, answer, tagNotFound, obeyed, started}
+use Rattle.meaning.specs.Call.{Local, answer, tagNotFound, obeyed, started}
 use Rattle.meaning.specs.declared.table.OnPlaque.{OnPlaque}
 use Rattle.meaning.specs.declared.table.OnPlaque.the-variants.{Fill, Read, Write, ReadId, Search}
 use Rattle.meaning.specs.declared.table.Kind.{Kind}
@@ -36,7 +36,7 @@ use Rattle.promise.proofs.Tables.{reader-node}
 use Rattle.promise.proofs.Readers.{withReading, reader-parts, reader-whole, plaque-bytes, id-long}
 use Rattle.promise.proofs.Locals as L
 use Rattle.answers.specs.Ordered.{loadOf, Ready}
-use Rattle.answers.specs.Say.{Sayable, Says}
+use Rattle.answers.specs.Say.{good, Sayable, Says}
 use Rattle.answers.specs.Decided.{bare, told, Formed}
 use Rattle.answers.specs.declared.Verdict.the-variants as W
 use Rattle.answers.proofs.Cuts.{cut}
@@ -46,15 +46,12 @@ use Rattle.orders.specs.declared.Change.{Change}
 use Rattle.orders.specs.declared.Change.the-variants as C
 use Rattle.orders.specs.declared.Decided.{Decided}
 
--- ---- what the code hands back, and its response without an error
+-- ---- what the code hands back
 abbrev pub refusal : Reader → ℕ → Decided
 refusal x k = record { after = x; change = C.Kept; words = record { 0 = 0 }; verdict = W.Refused k }
 
 abbrev pub reply : Reader → Change → Words → Decided
 reply y change k = record { after = y; change = change; words = k; verdict = W.Due }
-
-abbrev pub good : ℕ → ℕ → Stamp → ℕ → Response
-good count n t echo = record { error = false; echo = echo; count = count; node = n; stamp = t }
 
 -- ---- a refusal, and an answer that is due: once for all calls
 module _ {n : ℕ} {l : Local M.Reader} {ws region out : List ℕ} {d : Decided} where

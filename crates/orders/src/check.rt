@@ -2,9 +2,9 @@
 use crate::Change;
 use crate::Decided;
 use crate::due;
-use crate::good;
 use crate::past;
 use crate::refused;
+use answers::good;
 use answers::say;
 use state::reader::Reader;
 use units::stamp::Stamp;

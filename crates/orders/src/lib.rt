@@ -4,14 +4,11 @@ pub mod check;
 pub mod serve;
 
 use answers::Verdict;
-use meaning::packet::Response;
 use state::reader::Plaque;
 use state::reader::Reader;
 use units::Words;
 use units::packing::unpack;
-use units::stamp::Stamp;
 ghost use mathlib.Core.Path.{_≡_};
-ghost use mathlib.Core.Bool.{false};
 ghost use Prim.Native.Nat.{_+_, _≤_};
 ghost use lib.Dec.{ltb};
 ghost use lib.ListN.{length, replicate};
@@ -52,19 +49,6 @@ fn due(after: Reader, change: Change, words: Words) -> Decided
         change,
         words,
         verdict: Verdict::Due,
-    }
-}
-
-// The answer without an error.
-fn good(count: u8, node: u8, t: Stamp, echo: u8) -> Response
-    ensures { λ r. ⌜ r ≡ record { error = false; echo = echo; count = count; node = node; stamp = t } ⌝ }
-{
-    Response {
-        error: false,
-        echo,
-        count,
-        node,
-        stamp: t,
     }
 }
 

@@ -2,9 +2,9 @@
 use crate::Change;
 use crate::Decided;
 use crate::due;
-use crate::good;
 use crate::past;
 use crate::refused;
+use answers::good;
 use answers::say;
 use meaning::packet::Command;
 use meaning::packet::Response;

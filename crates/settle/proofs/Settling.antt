@@ -70,10 +70,10 @@ few : (m : Machine) → unfit full m ≡ 0 → (i : ℕ) → i < 17 → getD (m 
 unfolding bounded
 few m fit i h =
     let p = parts full m fit in
-    let o = and-true (every (λ h. leb h 804) (counts (m .state .held))) _ (bounds m fit) in
+    let o = and-true (every (λ h. leb h (full .limit)) (counts (m .state .held))) _ (bounds m fit) in
     let l : length (counts (m .state .held)) ≡ 17 = length-map (m .state .held) (λ (w : Words). w .0) ∙ p .eachHeld in
-    let b : getD (counts (m .state .held)) i 0 ≤ 804 =
-    leb-true _ _ (every-get (λ h. leb h 804) (counts (m .state .held)) i 0 (o .0) (omega arith)) in
+    let b : getD (counts (m .state .held)) i 0 ≤ full .limit =
+    leb-true _ _ (every-get (λ h. leb h (full .limit)) (counts (m .state .held)) i 0 (o .0) (omega arith)) in
     let g : getD (counts (m .state .held)) i 0 ≡ getD (m .state .held) i nothing .0 = List·getD-map (λ (w : Words). w .0) (m .state .held) i nothing in
     let a = P.answers-held full (m .store) (m .state) (sound m fit) i (omega (arith, p .eachNode)) in
     omega arith

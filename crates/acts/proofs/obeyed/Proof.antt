@@ -1,7 +1,6 @@
-use native.Mathlib.Omega.{arith}
 use mathlib.Core.Path.{refl}
 use denote.Ref.{now}
-use Rattle.settle.proofs.Seating.{index, memory-long, lent-inside, lent-long, queued-back, other-back}
+use Rattle.settle.proofs.Seating.{index, memory-long, lent-inside, queued-back, other-back}
 use Rattle.acts.proofs.Acting.{readable, suited, obeys}
 use borrow.Author.Needs.{needs}
 use Rattle.acts.proofs.obeyed.Statement.{statement}

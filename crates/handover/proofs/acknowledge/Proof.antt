@@ -1,7 +1,5 @@
 use borrow.Author.Needs.{needs}
 use native.Mathlib.Omega.{arith}
-use Prim.Native.Nat.{_<_}
-use mathlib.Core.Path.{sym}
 use lib.ListN.{getD}
 use Rattle.meaning.specs.Bench.{full}
 use Rattle.meaning.specs.Call.{acknowledge}

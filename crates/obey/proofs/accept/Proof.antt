@@ -4,7 +4,6 @@ use mathlib.Core.Bool.{not}
 use denote.Ref.{now}
 use borrow.Author.Tests.{ne-eqb}
 use Rattle.meaning.specs.Bench.{full}
-use Rattle.meaning.specs.Call as S
 use Rattle.meaning.specs.declared.table.Row.{Row}
 use Rattle.state.specs.Machine.{Machine, machine, meaning}
 use Rattle.promise.proofs.Accepted.{reader-suited}

@@ -1,5 +1,4 @@
 use native.Mathlib.Omega.{arith}
-use mathlib.Core.Path.{_≡_, refl}
 use borrow.Author.Needs.{needs}
 use Rattle.store.proofs.take.Statement.{statement}
 use Rattle.store.proofs.take.Tie as tie

@@ -9,7 +9,7 @@ use Rattle.promise.proofs.Commands.{checked-3, checked-7}
 use Rattle.answers.specs.Ordered.{looking}
 use Rattle.answers.proofs.Indices.{slot-out, slot-in}
 use Rattle.answers.proofs.Replies.{stepped, called}
-use Rattle.obey.proofs.Taking.{inside, seatable, seats-here, checks-here}
+use Rattle.obey.proofs.Taking.{seatable, seats-here, checks-here}
 use borrow.Author.Needs.{needs}
 use Rattle.obey.proofs.check.check.Statement.{statement}
 use Rattle.obey.proofs.check.check.Tie as tie

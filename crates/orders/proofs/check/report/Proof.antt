@@ -1,4 +1,3 @@
-use borrow.Author.Tests.{not-true, not-false}
 use Rattle.orders.proofs.Serving.{in-region, not-past}
 use Rattle.orders.proofs.Looking.{busy, look-past, look-due, look-sayable}
 use borrow.Author.Needs.{needs}
