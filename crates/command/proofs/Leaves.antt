@@ -3,12 +3,22 @@
 use Prim.Native.Nat.{ℕ}
 use mathlib.Core.Path.{_≡_, refl, sym, ap, _∙_}
 use mathlib.Core.Bool.{Bool, true, false, not}
-use mathlib.Core.List.{[], _∷_}
+use mathlib.Core.List.{List, [], _∷_}
 use lib.Dec.{T, eqb, ltb, leb}
 use types.Run.{OneOf}
 use denote.Enum.Declared.{tagOf}
 use borrow.Author.Tests.{eq-eqb, ne-eqb, lt-ltb, le-ltb, leb-true, leb-false}
+use Rattle.units.specs.declared.Form.{Form}
+use Rattle.units.specs.declared.stamp.Stamp.{Stamp}
 use Rattle.units.proofs.Arms.{keys}
+use Rattle.meaning.specs.Refusal.{refusal, _orElse_}
+use Rattle.meaning.specs.Bench.{full}
+use Rattle.meaning.specs.Table.{rowOf}
+use Rattle.meaning.specs.Command.{bodyOf, commandOf, frameDoubts, rowDoubts, commandDoubts}
+use Rattle.meaning.specs.Call.{command, judged, commandIn, kindIn}
+use Rattle.meaning.specs.declared.table.Row.{Row}
+use Rattle.command.specs.Judged.{judgedCommand}
+use Rattle.meaning.specs.declared.packet.Command.{Command}
 use Rattle.meaning.specs.declared.table.Kind.{Kind}
 use Rattle.meaning.proofs.table.Kind.{the-type}
 use Rattle.meaning.specs.declared.table.Kind.the-variants.{Plaque, Continuous, ResetReader, Gateway, Unknown}
@@ -39,3 +49,22 @@ not-continuous P Continuous e a b g d =
 not-continuous P ResetReader e a b g d = b
 not-continuous P (Gateway p) e a b g d = g p
 not-continuous P Unknown e a b g d = d
+
+-- ---- a packet that was opened: its body, what that says, its row
+module _ (f : Form) (ws : List ℕ) {body : List ℕ} {m : Command} (b : body ≡ bodyOf f ws) (e : m ≡ commandOf body) where
+  pub said-is : m ≡ commandOf (bodyOf f ws)
+  said-is = e ∙ ap commandOf b
+
+  module _ {row : Row} (r : row ≡ rowOf full (m .command)) where
+    pub kind-is : row .kind ≡ rowOf full (commandOf (bodyOf f ws) .command) .kind
+    kind-is = ap (λ (r : Row). r .kind) r ∙ ap (λ (m : Command). rowOf full (m .command) .kind) said-is
+
+    pub refusal-is : {n : ℕ} → n ≡ refusal (frameDoubts f ws body orElse rowDoubts full row m body) → n ≡ refusal (commandDoubts full f ws)
+    unfolding commandDoubts
+    refusal-is {n} q = q ∙ rw (r, e, b)
+
+-- as it is handed on
+pub judged-is : (t : Stamp) (f : Form) (ws : List ℕ) {n : ℕ} {k : Kind} {m : Command} → n ≡ judged full (command t f ws) → k ≡ kindIn full f ws
+    → m ≡ commandIn f ws → record { refusal = n; kind = k; what = m } ≡ judgedCommand full t f ws
+unfolding judgedCommand
+judged-is t f ws p q r = rw (p, q, r)

@@ -17,12 +17,14 @@ use units::Bytes;
 use units::Form;
 use units::packing::lsb;
 use units::packing::msb;
+use units::stamp::Stamp;
 ghost use mathlib.Core.Path.{_≡_};
-ghost use Rattle.meaning.specs.Refusal.{refusal};
+ghost use Rattle.meaning.specs.Refusal.{refusal, _orElse_};
 ghost use Rattle.meaning.specs.Bench.{full};
 ghost use Rattle.meaning.specs.Table.{rowOf};
 ghost use Rattle.meaning.specs.declared.table.Kind.the-variants.{Continuous};
-ghost use Rattle.meaning.specs.Command.{bodyOf, commandOf, headWrong, headNodeWrong, frameDoubts, whoDoubts, outside, delayWrong, rangeWrong, limitDoubts, stray, unusedDoubts, rowDoubts, commandDoubts, readCommand, commandData};
+ghost use Rattle.meaning.specs.Command.{bodyOf, commandOf, headWrong, headNodeWrong, frameDoubts, whoDoubts, outside, delayWrong, rangeWrong, limitDoubts, stray, unusedDoubts, rowDoubts, readCommand, commandData};
+ghost use Rattle.command.specs.Judged.{judgedCommand};
 
 // The words from Overall Length on.
 fn body_of(words: &[u16], form: Form) -> &[u16]
@@ -227,27 +229,57 @@ fn row_refusal(row: Row, m: Command, body: &[u16]) -> u8
     0
 }
 
-// The refusal of a packet that is read; 0 where it is accepted.
-fn command_refusal(words: &[u16], form: Form) -> u8
-    ensures { λ r. ⌜ r ≡ refusal (commandDoubts full form (now (words .entry))) ⌝ }
+// 4 to 11, of a packet whose body says m, with m's row
+fn packet_refusal(words: &[u16], form: Form, body: &[u16], row: Row, m: Command) -> u8
+    ensures { λ r. ⌜ r ≡ refusal (frameDoubts form (now (words .entry)) (now (body .entry)) orElse rowDoubts full row m (now (body .entry))) ⌝ }
 {
-    let body = body_of(words, form);
     let frame = frame_refusal(words, form, body);
     if frame != 0 {
         return frame;
     }
-    let m = command_of(body);
-    row_refusal(row_of(m.command), m, body)
+    row_refusal(row, m, body)
+}
+
+// A command packet with its stamp: the refusal (3 to 11), 0 where it is accepted; what it says, and what its row in the table says that it does.
+pub struct Judged {
+    pub refusal: u8,
+    pub kind: Kind,
+    pub what: Command,
+}
+
+// Opens the packet, and looks its row up: once each.
+pub fn judge_command(t: Stamp, form: Form, words: &[u16]) -> Judged
+    ensures { λ r. ⌜ r ≡ judgedCommand full t form (now (words .entry)) ⌝ }
+{
+    let body = body_of(words, form);
+    let what = command_of(body);
+    let row = row_of(what.command);
+    let kind = row.kind;
+    if !t.is_valid() {
+        return Judged {
+            refusal: 3,
+            kind,
+            what,
+        };
+    }
+    let refusal = packet_refusal(words, form, body, row, what);
+    Judged {
+        refusal,
+        kind,
+        what,
+    }
 }
 
 pub fn read_command(words: &[u16], form: Form) -> CommandRead
     ensures { λ r. ⌜ r ≡ readCommand full form (now (words .entry)) ⌝ }
 {
-    let n = command_refusal(words, form);
+    let body = body_of(words, form);
+    let m = command_of(body);
+    let n = packet_refusal(words, form, body, row_of(m.command), m);
     if n != 0 {
         return CommandRead::Refused(n);
     }
-    CommandRead::Accepted(command_of(body_of(words, form)))
+    CommandRead::Accepted(m)
 }
 
 // The data of a packet, from word 07 on: a part of the caller's own words.

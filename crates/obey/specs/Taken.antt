@@ -18,14 +18,6 @@ use Rattle.state.specs.Consistent.{unfit}
 use Rattle.answers.specs.Ordered.{Ready, ordered, heeding}
 use Rattle.desk.specs.Ruled.{ToldOf}
 
--- the row's kind
-abbrev pub kindOf : Bench → Command → Kind
-kindOf b m = rowOf b (m .command) .kind
-
--- "a packet [is] for that of word 03"
-unfoldable pub taking : Bench → Gateway → Stamp → Command → List ℕ → Outcome
-taking b g t m bs = cond (eqb (m .node) hub) (heeding b g t (kindOf b m) bs) (ordered b g t (kindOf b m) m bs)
-
 -- ---- what an accepted command brings, on a consistent machine
 -- for a reader
 pub record Orderly (b : Bench) (t : Stamp) (k : Kind) (m : Command) (words : List ℕ) (x : Machine) : Type 0 where
@@ -39,10 +31,3 @@ pub record Heeded (b : Bench) (t : Stamp) (k : Kind) (m : Command) (words : List
   pub fit : unfit b x ≡ 0
   pub stamp : isStamp t ≡ true
   pub told : ToldOf b k m words
-
-pub record Taken (b : Bench) (t : Stamp) (m : Command) (words : List ℕ) (x : Machine) : Type 0 where
-  pub fit : unfit b x ≡ 0
-  pub stamp : isStamp t ≡ true
-  pub node : isNode b (m .node) ≡ true
-  pub ready : Ready b (kindOf b m) m words
-  pub told : ToldOf b (kindOf b m) m words

@@ -5,12 +5,10 @@ use acts::governed;
 use acts::obeyed;
 use answers::refused;
 use command::command_data;
-use command::read_command;
+use command::judge_command;
 use meaning::packet::Command;
-use meaning::packet::CommandRead;
 use meaning::table::Kind;
 use promise::Called;
-use rows::row_of;
 use settle::Seated;
 use state::State;
 use units::Form;
@@ -24,7 +22,7 @@ ghost use Rattle.state.specs.Machine.{machine, meaning};
 ghost use Rattle.state.specs.Consistent.{unfit};
 ghost use Rattle.promise.specs.Obeyed.{Makes};
 ghost use Rattle.answers.specs.Ordered.{loadOf, ordered, heeding};
-ghost use Rattle.obey.specs.Taken.{taking, Orderly, Heeded, Taken};
+ghost use Rattle.obey.specs.Taken.{Orderly, Heeded};
 
 // What a call made of the parts of the reader at an index, put back.
 fn seated(s: State, i: usize, r: Seated) -> Called
@@ -92,24 +90,6 @@ fn rule(
 }
 
 // A packet that is accepted goes to the node of its word 03.
-fn accept(
-    s: State,
-    t: Stamp,
-    m: Command,
-    words: &[u16],
-    store: &mut [u16],
-    plaques: &mut [u8],
-) -> Called
-    requires { ⌜ Taken full t m (now words) (machine s (now store) (now plaques)) ⌝ }
-    ensures { λ r. ⌜ Makes full (taking full (meaning full (machine s (now (store .entry)) (now (plaques .entry)))) t m (loadOf full m (now (words .entry)))) s (now (store .entry)) (now (plaques .entry)) r (now (store .exit)) (now (plaques .exit)) ⌝ }
-{
-    let kind = row_of(m.command).kind;
-    if m.node == 32 {
-        return rule(s, t, kind, m, words, store, plaques);
-    }
-    order(s, t, kind, m, words, store, plaques)
-}
-
 pub fn obey(
     s: State,
     t: Stamp,
@@ -119,13 +99,18 @@ pub fn obey(
     plaques: &mut [u8],
 ) -> Called
     requires { ⌜ unfit full (machine s (now store) (now plaques)) ≡ 0 ⌝ }
-    ensures { λ r. ⌜ Makes full (S.step full (meaning full (machine s (now (store .entry)) (now (plaques .entry)))) (S.command t form (now (words .entry)))) s (now (store .entry)) (now (plaques .entry)) r (now (store .exit)) (now (plaques .exit)) ⌝ }
+    ensures { λ r. ⌜ Makes full (S.step full (meaning full (machine s (now (store .entry)) (now (plaques .entry)))) (S.command t form (now (words .entry)))) s
+        (now (store .entry)) (now (plaques .entry)) r (now (store .exit)) (now (plaques .exit)) ⌝ }
 {
-    if !t.is_valid() {
-        return refused(s, 3);
+    let j = judge_command(t, form, words);
+    if j.refusal != 0 {
+        return refused(s, j.refusal);
     }
-    match read_command(words, form) {
-        CommandRead::Refused(n) => refused(s, n),
-        CommandRead::Accepted(m) => accept(s, t, m, command_data(words, form), store, plaques),
+    let kind = j.kind;
+    let m = j.what;
+    let data = command_data(words, form);
+    if m.node == 32 {
+        return rule(s, t, kind, m, data, store, plaques);
     }
+    order(s, t, kind, m, data, store, plaques)
 }

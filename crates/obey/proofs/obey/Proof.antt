@@ -1,94 +1,85 @@
-use Rattle.obey.proofs.Packets.{read-refused, taken, step-taken, instead}
+-- A packet that is refused by what it says is refused so; one that is accepted goes to its own node, which makes of it what the step says.
 use mathlib.Core.Path.{sym, _∙_}
 use denote.Ref.{now}
-use borrow.Author.Tests.{not-true, not-false}
 use Rattle.meaning.specs.Bench.{full}
 use Rattle.meaning.specs.Call as S
-use Rattle.meaning.specs.Call.{refused}
 use Rattle.demands.specs.Sound.{full-sound}
 use Rattle.state.specs.Machine.{Machine, machine, meaning}
 use Rattle.promise.specs.Obeyed.{spoken}
-use Rattle.promise.proofs.Commands.{commanded-3, commanded-refused}
+use Rattle.promise.proofs.Promises.{turning}
+use Rattle.promise.proofs.Steps.{step-refused}
 use Rattle.answers.proofs.Replies.{stepped, called}
+use Rattle.command.proofs.Judging.{its-refusal, its-kind, its-command}
+use Rattle.obey.proofs.Packets.{orderly, heeded, step-reader-is, step-hub-is, instead}
 use borrow.Author.Needs.{needs}
 use Rattle.obey.proofs.obey.Statement.{statement}
 use Rattle.obey.proofs.obey.Tie as tie
 
-is-valid-requires : tie.Need-is-valid-requires
-is-valid-requires c κs = search needs
-
-refused-requires : tie.Need-refused-requires
-refused-requires c κs = search needs
+abbrev whole : tie.Start → Machine
+whole s = machine (s .args .s) (now (s .args .store)) (now (s .args .plaques))
 
 returns : tie.Need-returns
 unfolding spoken
 returns c =
-    let s = c .before .before .before .before .before .before in let a = s .args in
-    let m : Machine = machine (a .s) (now (a .store)) (now (a .plaques)) in
-    called (c .refused .ensures) (stepped (S.command (a .t) (a .form) (now (a .words))) (s .pre)
-    (commanded-3 full m (s .pre) (a .t) (a .form) (now (a .words)) (sym (c .before .before .is-valid .ensures) ∙ not-true _ (c .before .if1 .taken))))
+    let j = c .before .before .before in
+    let s = j .before .before .before .before in
+    let a = s .args in
+    let e = its-refusal full (a .t) (a .form) (now (a .words)) (j .judge-command .ensures) in
+    let k = S.command (a .t) (a .form) (now (a .words)) in
+    called (c .refused .ensures) (stepped k (s .pre) (turning full (whole s) k (s .pre) _ (step-refused full _ k _ (sym e) (c .before .if1 .taken))))
 
-read-command-requires : tie.Need-read-command-requires
-read-command-requires c κs = search needs
-
-enum-known-n : tie.Need-enum-known-n
-enum-known-n c = search needs
-
-refused-requires-2 : tie.Need-refused-requires-2
-refused-requires-2 c κs = search needs
-
-enum-known-m : tie.Need-enum-known-m
-enum-known-m c = search needs
-
-command-data-requires : tie.Need-command-data-requires
-command-data-requires c κs = search needs
-
-accept-requires : tie.Need-accept-requires
-accept-requires c κs =
-    let s = c .before .before .before .before .before .before .before .before .before .before .before .before in let a = s .args in
-    let m : Machine = machine (a .s) (now (a .store)) (now (a .plaques)) in
-    let good = sym (c .before .before .before .before .before .before .before .before .is-valid .ensures) ∙ not-false _ (c .before .before .before .before .before .before .before .if1 .left) in
-    taken full (a .form) (now (a .words)) _ (sym (c .before .before .before .before .before .before .read-command .ensures) ∙ c .before .before .before .before .m .given .1) (a .t) good m (s .pre) _ (c .before .before .command-data .ensures)
+rule-requires : tie.Need-rule-requires
+rule-requires c κs =
+    let d = c .before .before .before .before in
+    let j = d .before .before .before .before in
+    let s = j .before .before .before .before in
+    let a = s .args in
+    let p = j .judge-command .ensures in
+    let e = sym (its-refusal full (a .t) (a .form) (now (a .words)) p) ∙ d .before .before .if1 .left in
+    heeded full (a .t) (a .form) (now (a .words)) e (its-kind full (a .t) (a .form) (now (a .words)) p)
+    (its-command full (a .t) (a .form) (now (a .words)) p) (d .command-data .ensures) (whole s) (s .pre)
 
 returns-2 : tie.Need-returns-2
-unfolding spoken
 returns-2 c =
-    let s = c .before .before .before .before .before .before .before .before .before .before in let a = s .args in
-    let m : Machine = machine (a .s) (now (a .store)) (now (a .plaques)) in
-    let good = sym (c .before .before .before .before .before .before .is-valid .ensures) ∙ not-false _ (c .before .before .before .before .before .if1 .left) in
-    let r = read-refused full (a .form) (now (a .words)) _ (sym (c .before .before .before .before .read-command .ensures) ∙ c .before .before .n .given .1) in
-    called (c .refused2 .ensures) (stepped (S.command (a .t) (a .form) (now (a .words))) (s .pre)
-    (commanded-refused full m (s .pre) (a .t) (a .form) (now (a .words)) good _ (r .0) (r .1)))
+    let i = c .before .before .before .before .before in
+    let d = i .before .before in
+    let j = d .before .before .before .before in
+    let s = j .before .before .before .before in
+    let a = s .args in
+    let p = j .judge-command .ensures in
+    let e = sym (its-refusal full (a .t) (a .form) (now (a .words)) p) ∙ d .before .before .if1 .left in
+    instead (step-hub-is full (a .t) (a .form) (now (a .words)) e (its-kind full (a .t) (a .form) (now (a .words)) p)
+    (its-command full (a .t) (a .form) (now (a .words)) p) (d .command-data .ensures) (meaning full (whole s)) full-sound (i .if2 .taken))
+    (c .before .before .rule .ensures)
 
-same-length : tie.Need-same-length
-same-length c = search needs
-
-same-length-2 : tie.Need-same-length-2
-same-length-2 c = search needs
+order-requires : tie.Need-order-requires
+order-requires c κs =
+    let d = c .before .before .before .before in
+    let j = d .before .before .before .before in
+    let s = j .before .before .before .before in
+    let a = s .args in
+    let p = j .judge-command .ensures in
+    let e = sym (its-refusal full (a .t) (a .form) (now (a .words)) p) ∙ d .before .before .if1 .left in
+    orderly full (a .t) (a .form) (now (a .words)) e (its-kind full (a .t) (a .form) (now (a .words)) p)
+    (its-command full (a .t) (a .form) (now (a .words)) p) (d .command-data .ensures) (c .before .before .if2 .left) (whole s) (s .pre)
 
 returns-3 : tie.Need-returns-3
 returns-3 c =
-    let s = c .before .before .before .before .before .before .before .before .before .before .before .before .before .before .before .before .before in let a = s .args in
-    let m : Machine = machine (a .s) (now (a .store)) (now (a .plaques)) in
-    let good = sym (c .before .before .before .before .before .before .before .before .before .before .before .before .before .is-valid .ensures) ∙ not-false _ (c .before .before .before .before .before .before .before .before .before .before .before .before .if1 .left) in
-    instead
-    (step-taken full (a .form) (now (a .words)) _ (sym (c .before .before .before .before .before .before .before .before .before .before .before .read-command .ensures) ∙ c .before .before .before .before .before .before .before .before .before .m .given .1) (meaning full m) (a .t) good full-sound _ (c .before .before .before .before .before .before .before .command-data .ensures))
-    (c .before .before .before .before .accept .ensures)
+    let i = c .before .before .before .before .before .before .before in
+    let d = i .before .before in
+    let j = d .before .before .before .before in
+    let s = j .before .before .before .before in
+    let a = s .args in
+    let p = j .judge-command .ensures in
+    let e = sym (its-refusal full (a .t) (a .form) (now (a .words)) p) ∙ d .before .before .if1 .left in
+    let k = its-kind full (a .t) (a .form) (now (a .words)) p in
+    let w = its-command full (a .t) (a .form) (now (a .words)) p in
+    let l = d .command-data .ensures in
+    let r = orderly full (a .t) (a .form) (now (a .words)) e k w l (i .if2 .left) (whole s) (s .pre) .reader in
+    instead (step-reader-is full (a .t) (a .form) (now (a .words)) e k w l (meaning full (whole s)) r) (c .before .before .before .before .order .ensures)
 
 pub obey-spec : {M : Type 1} → statement M
 obey-spec =
     tie.close
-    (tie.spec
-    is-valid-requires
-    refused-requires
-    returns
-    read-command-requires
-    enum-known-n
-    refused-requires-2
-    enum-known-m
-    command-data-requires
-    accept-requires
-    returns-2
-    same-length
-    same-length-2
-    returns-3)
+    (tie.spec (λ c κs. search needs) (λ c κs. search needs) returns (λ c κs. search needs) rule-requires (λ c. search needs) (λ c. search needs)
+    returns-2 order-requires (λ c. search needs) (λ c. search needs) returns-3)
