@@ -1,7 +1,7 @@
 -- The fields from a place of a line on: where a field ends, whether there is one more, and whether all are words.
 -- Assumes nothing.
 use Prim.Native.Nat.{ℕ, zero, suc, _+_, _-_, _≤_, _<_}
-use mathlib.Core.Path.{_≡_, sym, ap, _∙_}
+use mathlib.Core.Path.{_≡_, sym, ap, _∙_, subst}
 use mathlib.Core.Bool.{true, false}
 use mathlib.Core.List.{List, [], _∷_}
 use native.Mathlib.Decide.{decLe, ℕ-discrete}
@@ -59,6 +59,18 @@ module _ (line : List ℕ) where
         least = omega arith;
         most = f .most;
       }
+
+  -- four that are none, and a blank behind them
+  before-next : (at next r : ℕ) → next ≡ at + 1 → at < length line → (getD line at 0 ≡ 32 → ⊥) → FieldAt line next r → FieldAt line at r
+  before-next at next r e h d f = at-other at r h d (subst (λ (k : ℕ). FieldAt line k r) e f)
+
+  pub four-bytes : (at : ℕ) → at + 4 < length line → getD line (at + 4) 0 ≡ 32 → (getD line at 0 ≡ 32 → ⊥) → (getD line (at + 1) 0 ≡ 32 → ⊥)
+      → (getD line (at + 2) 0 ≡ 32 → ⊥) → (getD line (at + 3) 0 ≡ 32 → ⊥) → FieldAt line at (at + 4)
+  four-bytes at h e a b c d =
+      before-next at (at + 1) (at + 4) (omega arith) (omega arith) a
+      (before-next (at + 1) (at + 2) (at + 4) (omega arith) (omega arith) b
+      (before-next (at + 2) (at + 3) (at + 4) (omega arith) (omega arith) c
+      (before-next (at + 3) (at + 4) (at + 4) (omega arith) (omega arith) d (at-blank (at + 4) h e))))
 
   -- ---- the place after a field
   pub after-field : (at r : ℕ) → FieldAt line at r → placeAfter line at ≡ r + 1

@@ -1,16 +1,17 @@
 // Words and bytes in hexadecimal digits.
 use crate::field::field_end;
 use crate::field::is_same;
+use crate::number::both;
 use crate::number::is_within;
 use units::Bytes;
 ghost use mathlib.Core.Path.{_≡_};
-ghost use mathlib.Core.Bool.{true};
-ghost use Prim.Native.Nat.{_+_, _*_, _<_};
+ghost use mathlib.Core.Bool.{true, _||_};
+ghost use Prim.Native.Nat.{_+_, _*_, _<_, _≤_};
 ghost use lib.ListN.{length};
 ghost use Rattle.units.specs.Count.{every};
 ghost use Rattle.units.specs.Packing.{onto};
 ghost use Rattle.dialog.specs.Fields.{isHex, hexDigit, wordOk, wordOf, bytesOk, bytesOf};
-ghost use Rattle.fields.specs.FieldsAt.{fieldsFrom, wordsAt, wordsFrom};
+ghost use Rattle.fields.specs.FieldsAt.{FieldAt, fieldsFrom, wordsAt, wordsFrom};
 
 // How many fields from a place on are words, where all are. A line may have more than a word can say, so this is no Words.
 pub struct WordsRead {
@@ -18,43 +19,41 @@ pub struct WordsRead {
     pub words: usize,
 }
 
+// Both are asked for: a test that left at the first would be a branch that nobody can foretell.
+fn either(a: bool, b: bool) -> bool
+    ensures { λ r. ⌜ r ≡ (a || b) ⌝ }
+{
+    if a { true } else { b }
+}
+
 fn is_hex(c: u8) -> bool
     ensures { λ r. ⌜ r ≡ isHex c ⌝ }
 {
-    if is_within(b'0', b'9', c) {
-        return true;
-    }
-    if is_within(b'A', b'F', c) {
-        return true;
-    }
-    is_within(b'a', b'f', c)
+    let digit = is_within(b'0', b'9', c);
+    let upper = is_within(b'A', b'F', c);
+    let lower = is_within(b'a', b'f', c);
+    either(either(digit, upper), lower)
 }
 
+// Without a branch: a letter is above 64 in either case, and its last four bits count from 1.
 fn digit_of(c: u8) -> u8
     requires { ⌜ isHex c ≡ true ⌝ }
     ensures { λ r. ⌜ r ≡ hexDigit c ⌝ }
     ensures { λ r. ⌜ r < 16 ⌝ }
 {
-    if c <= b'9' {
-        return c - b'0';
-    }
-    if c <= b'F' {
-        return c - 55;
-    }
-    c - 87
+    c % 16 + c / 64 * 9
 }
 
 fn all_hex(field: &[u8]) -> bool
     ensures { λ r. ⌜ r ≡ every isHex (now (field .entry)) ⌝ }
 {
+    let mut all = true;
     let mut i = 0;
     while i < field.len() {
-        if !is_hex(field[i]) {
-            return false;
-        }
+        all = both(all, is_hex(field[i]));
         i += 1;
     }
-    true
+    all
 }
 
 fn byte_of(high: u8, low: u8) -> u8
@@ -80,6 +79,27 @@ fn word_of(field: &[u8]) -> u16
     units::packing::word(byte_of(field[0], field[1]), byte_of(field[2], field[3]))
 }
 
+// Where the field that begins at a place ends; where it is a word, that is seen at once.
+fn word_end(line: &[u8], at: usize) -> usize
+    requires { ⌜ at ≤ length (now line) ⌝ }
+    ensures { λ r. ⌜ FieldAt (now (line .entry)) at r ⌝ }
+{
+    if line.len() - at < 5 {
+        return field_end(line, at);
+    }
+    let end = at + 4;
+    if line[end] != b' ' {
+        return field_end(line, at);
+    }
+    if line[at] == b' ' || line[at + 1] == b' ' {
+        return field_end(line, at);
+    }
+    if line[at + 2] == b' ' || line[at + 3] == b' ' {
+        return field_end(line, at);
+    }
+    end
+}
+
 // The words from a place to the line's end, counted.
 pub fn count_words(line: &[u8], at: usize) -> WordsRead
     ensures { λ r. ⌜ r ≡ wordsAt (now (line .entry)) at ⌝ }
@@ -87,7 +107,7 @@ pub fn count_words(line: &[u8], at: usize) -> WordsRead
     let mut from = at;
     let mut n = 0;
     while from <= line.len() {
-        let end = field_end(line, from);
+        let end = word_end(line, from);
         if !is_word(&line[from..end]) {
             return WordsRead {
                 ok: false,
@@ -111,7 +131,7 @@ pub fn put_words(line: &[u8], at: usize, out: &mut [u16])
         if line.len() < from {
             return;
         }
-        let end = field_end(line, from);
+        let end = word_end(line, from);
         out[i] = word_of(&line[from..end]);
         i += 1;
         from = end + 1;

@@ -41,7 +41,7 @@ pub fn is_within(from: u8, to: u8, c: u8) -> bool
     c <= to
 }
 
-fn both(a: bool, b: bool) -> bool
+pub fn both(a: bool, b: bool) -> bool
     ensures { λ r. ⌜ r ≡ (a && b) ⌝ }
 {
     if a { b } else { false }

@@ -1,59 +1,50 @@
--- What is left is all digits just where the whole is.
+-- What was seen and what is left are all digits just where the whole is.
 -- Assumes nothing.
 use native.Mathlib.Omega.{arith}
 use denote.Ref.{now}
-use mathlib.Core.Path.{_≡_, refl, sym, _∙_}
-use Prim.Native.Nat.{_-_, _≤_}
-use lib.ListN.{length, drop}
+use mathlib.Core.Path.{_≡_, refl, sym, ap, _∙_}
+use mathlib.Core.Bool.{Bool, true, false, _&&_}
+use Prim.Native.Nat.{_+_, _-_, _≤_}
+use lib.ListN.{length, getD, drop}
 use Rattle.units.specs.Count.{every}
-use Rattle.units.proofs.Choice.{yes-and, no-and}
 use Rattle.dialog.specs.Fields.{isHex}
 use Rattle.dialog.proofs.FieldLaws.{every-next, every-end}
-use borrow.Author.Tests.{not-true, not-false}
 use Rattle.fields.proofs.hex.all_hex.Statement.{statement}
 use Rattle.fields.proofs.hex.all_hex.Tie as tie
 
+regroup : (a b c : Bool) → (a && (b && c)) ≡ ((a && b) && c)
+regroup true b c = refl
+regroup false b c = refl
+
+end : (a : Bool) → (a && true) ≡ a
+end true = refl
+end false = refl
+
 abbrev Inv-loop : tie.InvT-loop
-Inv-loop field i₀ i = (i ≤ length field) × (every isHex field ≡ every isHex (drop i field))
+Inv-loop field all₀ i₀ all i = (i ≤ length field) × (every isHex field ≡ (all && every isHex (drop i field)))
 
 abbrev μ-loop : tie.MeasureT-loop
-μ-loop field i₀ i = length field - i
+μ-loop field all₀ i₀ all i = length field - i
 
 loop-holds : tie.Need-loop-holds Inv-loop μ-loop
 loop-holds c = (omega arith, refl)
 
-shared-slice-read-is-hex : tie.Need-shared-slice-read-is-hex Inv-loop μ-loop
-shared-slice-read-is-hex c = omega arith
-
-is-hex-requires : tie.Need-is-hex-requires Inv-loop μ-loop
-is-hex-requires c κs = tt
+loop-again : tie.Need-loop-again Inv-loop μ-loop
+loop-again c =
+    let l = c .before .before .before .before in
+    let f = now (l .before .before .args .field) in (
+      omega arith,
+      l .loop .inv .1 ∙ ap (λ (b : Bool). l .loop .all && b) (every-next isHex f (l .loop .i) 0 (omega arith))
+          ∙ rw (c .both .ensures, c .before .is-hex .ensures) (regroup (l .loop .all) (isHex (getD f (l .loop .i) 0)) (every isHex (drop (l .loop .i + 1) f))),
+    )
 
 returns : tie.Need-returns Inv-loop μ-loop
-returns c = sym (c .before .before .before .before .loop .inv .1 ∙ every-next isHex (now (c .before .before .before .before .before .before .args .field)) (c .before .before .before .before .loop .i) 0 (omega arith) ∙ no-and _ (sym (c .before .is-hex .ensures) ∙ not-true _ (c .if1 .taken)))
-
-add-i : tie.Need-add-i Inv-loop μ-loop
-add-i c = omega arith
-
-loop-less : tie.Need-loop-less Inv-loop μ-loop
-loop-less c = omega arith
-
-loop-again : tie.Need-loop-again Inv-loop μ-loop
-loop-again c = (omega arith, c .before .before .before .before .loop .inv .1 ∙ every-next isHex (now (c .before .before .before .before .before .before .args .field)) (c .before .before .before .before .loop .i) 0 (omega arith) ∙ yes-and (sym (c .before .is-hex .ensures) ∙ not-false _ (c .if1 .left)))
-
-returns-2 : tie.Need-returns-2 Inv-loop μ-loop
-returns-2 c = sym (c .before .loop .inv .1 ∙ every-end isHex (now (c .before .before .before .args .field)) (c .before .loop .i) (omega arith))
+returns c =
+    let l = c .before in
+    let f = now (l .before .before .args .field) in
+    sym (l .loop .inv .1 ∙ ap (λ (b : Bool). l .loop .all && b) (every-end isHex f (l .loop .i) (omega arith)) ∙ end _)
 
 pub all-hex-spec : {M : Type 1} → statement M
 all-hex-spec =
     tie.close
-    (tie.spec
-    Inv-loop
-    μ-loop
-    loop-holds
-    shared-slice-read-is-hex
-    is-hex-requires
-    returns
-    add-i
-    loop-less
-    loop-again
-    returns-2)
+    (tie.spec Inv-loop μ-loop loop-holds (λ c. omega arith) (λ c κs. tt) (λ c κs. tt) (λ c. omega arith) (λ c. omega arith) loop-again returns)

@@ -24,17 +24,17 @@ abbrev μ-loop : tie.MeasureT-loop
 loop-holds : tie.Need-loop-holds Inv-loop μ-loop
 loop-holds c = (omega arith, refl, omega arith)
 
-field-end-requires : tie.Need-field-end-requires Inv-loop μ-loop
-field-end-requires c κs = omega arith
+word-end-requires : tie.Need-word-end-requires Inv-loop μ-loop
+word-end-requires c κs = omega arith
 
 sub-is-word : tie.Need-sub-is-word Inv-loop μ-loop
-sub-is-word c = omega (arith, c .field-end .ensures .least)
+sub-is-word c = omega (arith, c .word-end .ensures .least)
 
 part-is-word-start : tie.Need-part-is-word-start Inv-loop μ-loop
-part-is-word-start c = c .field-end .ensures .least
+part-is-word-start c = c .word-end .ensures .least
 
 part-is-word-end : tie.Need-part-is-word-end Inv-loop μ-loop
-part-is-word-end c = c .field-end .ensures .most
+part-is-word-end c = c .word-end .ensures .most
 
 is-word-requires : tie.Need-is-word-requires Inv-loop μ-loop
 is-word-requires c κs = tt
@@ -44,20 +44,20 @@ returns c =
     let a = c .before .before .before .before .before .before .before .args in
     let l = c .before .before .before .before .before .loop in
     no-words (now (a .line)) (a .at)
-    (l .inv .1 ∙ ap (every wordOk) (c .before .before .before .field-end .ensures .first) ∙ every-cons wordOk _ _
+    (l .inv .1 ∙ ap (every wordOk) (c .before .before .before .word-end .ensures .first) ∙ every-cons wordOk _ _
     ∙ no-and _ (sym (c .before .is-word .ensures) ∙ not-true _ (c .if1 .taken)))
 
 add-n : tie.Need-add-n Inv-loop μ-loop
-add-n c = omega (arith, c .before .before .before .field-end .ensures .most)
+add-n c = omega (arith, c .before .before .before .word-end .ensures .most)
 
 add-from : tie.Need-add-from Inv-loop μ-loop
-add-from c = omega (arith, c .before .before .before .field-end .ensures .most)
+add-from c = omega (arith, c .before .before .before .word-end .ensures .most)
 
 loop-less : tie.Need-loop-less Inv-loop μ-loop
-loop-less c = omega (arith, c .before .before .before .field-end .ensures .least)
+loop-less c = omega (arith, c .before .before .before .word-end .ensures .least)
 
 loop-again : tie.Need-loop-again Inv-loop μ-loop
-loop-again c = (omega (arith, c .before .before .before .field-end .ensures .least), c .before .before .before .before .before .loop .inv .1 ∙ ap (every wordOk) (c .before .before .before .field-end .ensures .first) ∙ every-cons wordOk _ _ ∙ yes-and (sym (c .before .is-word .ensures) ∙ not-false _ (c .if1 .left)), omega (arith, ap length (c .before .before .before .field-end .ensures .first), c .before .before .before .before .before .loop .inv .2))
+loop-again c = (omega (arith, c .before .before .before .word-end .ensures .least), c .before .before .before .before .before .loop .inv .1 ∙ ap (every wordOk) (c .before .before .before .word-end .ensures .first) ∙ every-cons wordOk _ _ ∙ yes-and (sym (c .before .is-word .ensures) ∙ not-false _ (c .if1 .left)), omega (arith, ap length (c .before .before .before .word-end .ensures .first), c .before .before .before .before .before .loop .inv .2))
 
 returns-2 : tie.Need-returns-2 Inv-loop μ-loop
 returns-2 c =
@@ -73,7 +73,7 @@ count-words-spec =
     Inv-loop
     μ-loop
     loop-holds
-    field-end-requires
+    word-end-requires
     sub-is-word
     part-is-word-start
     part-is-word-end

@@ -33,20 +33,20 @@ same-length c = c .before .before .loop .inv .1
 returns : tie.Need-returns Inv-loop μ-loop
 returns c = sym (ap (sets _ (c .before .before .loop .i)) (ap (map wordOf) (from-past (now (c .before .before .before .before .before .args .line)) (c .before .before .loop .from) (c .if1 .taken)))) ∙ c .before .before .loop .inv .2 ∙ sym (onto-sets _ _)
 
-field-end-requires : tie.Need-field-end-requires Inv-loop μ-loop
-field-end-requires c κs = omega arith
+word-end-requires : tie.Need-word-end-requires Inv-loop μ-loop
+word-end-requires c κs = omega arith
 
 sub-word-of : tie.Need-sub-word-of Inv-loop μ-loop
-sub-word-of c = omega (arith, c .field-end .ensures .least)
+sub-word-of c = omega (arith, c .word-end .ensures .least)
 
 part-word-of-start : tie.Need-part-word-of-start Inv-loop μ-loop
-part-word-of-start c = c .field-end .ensures .least
+part-word-of-start c = c .word-end .ensures .least
 
 part-word-of-end : tie.Need-part-word-of-end Inv-loop μ-loop
-part-word-of-end c = c .field-end .ensures .most
+part-word-of-end c = c .word-end .ensures .most
 
 word-of-requires : tie.Need-word-of-requires Inv-loop μ-loop
-word-of-requires c κs = every-split wordOk (c .before .field-end .ensures .first) (c .before .before .before .before .loop .inv .3) .0
+word-of-requires c κs = every-split wordOk (c .before .word-end .ensures .first) (c .before .before .before .before .loop .inv .3) .0
 
 mul-out : tie.Need-mul-out Inv-loop μ-loop
 mul-out c = omega arith
@@ -58,13 +58,13 @@ add-i : tie.Need-add-i Inv-loop μ-loop
 add-i c = omega arith
 
 add-from : tie.Need-add-from Inv-loop μ-loop
-add-from c = omega (arith, c .before .before .field-end .ensures .most)
+add-from c = omega (arith, c .before .before .word-end .ensures .most)
 
 loop-less : tie.Need-loop-less Inv-loop μ-loop
 loop-less c = omega arith
 
 loop-again : tie.Need-loop-again Inv-loop μ-loop
-loop-again c = (omega arith, simp length-set (c .before .before .before .before .before .loop .inv .1), rw (add-one (c .before .before .before .before .before .loop .i), c .word-of .ensures) (sym (ap (λ (z : List (List ℕ)). sets (c .before .before .before .before .before .loop .out) (c .before .before .before .before .before .loop .i) (map wordOf z)) (c .before .before .field-end .ensures .first)) ∙ c .before .before .before .before .before .loop .inv .2), every-split wordOk (c .before .before .field-end .ensures .first) (c .before .before .before .before .before .loop .inv .3) .1)
+loop-again c = (omega arith, simp length-set (c .before .before .before .before .before .loop .inv .1), rw (add-one (c .before .before .before .before .before .loop .i), c .word-of .ensures) (sym (ap (λ (z : List (List ℕ)). sets (c .before .before .before .before .before .loop .out) (c .before .before .before .before .before .loop .i) (map wordOf z)) (c .before .before .word-end .ensures .first)) ∙ c .before .before .before .before .before .loop .inv .2), every-split wordOk (c .before .before .word-end .ensures .first) (c .before .before .before .before .before .loop .inv .3) .1)
 
 same-length-2 : tie.Need-same-length-2 Inv-loop μ-loop
 same-length-2 c = c .before .loop .inv .1
@@ -81,7 +81,7 @@ put-words-spec =
     loop-holds
     same-length
     returns
-    field-end-requires
+    word-end-requires
     sub-word-of
     part-word-of-start
     part-word-of-end
