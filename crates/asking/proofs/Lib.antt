@@ -1,3 +1,4 @@
 pub mod Queued
 pub mod Asking
+pub mod Accepting
 pub mod Answers

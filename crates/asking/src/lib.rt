@@ -1,85 +1,172 @@
-// A command of the night: played, its answer collected in register form and acknowledged.
-use answers::slots::node_slot;
-use handover::hand;
-use obey::obey;
+// A command of the night, at its own node: obeyed, its answer's line written straight from the store, and the answer taken away. The state
+// stays where it lies: its owner takes the parts out and puts them back.
+use acts::governed;
+use acts::obeyed;
+use command::command_data;
+use listingout::put_refused;
+use lists::room::place_of;
+use meaning::packet::Command;
+use meaning::table::Kind;
 use promise::Reply;
-use state::State;
+use settle::Housed;
+use settle::Seated;
+use state::Name;
+use state::node::Node;
+use state::reader::Reader;
+use store::take;
+use text::put_words;
 use units::Form;
 use units::Words;
-use units::packing::lsb;
 use units::stamp::Stamp;
 ghost use mathlib.Core.Path.{_≡_};
-ghost use Prim.Native.Nat.{_≤_};
+ghost use Prim.Native.Nat.{_+_, _≤_};
 ghost use lib.ListN.{length};
-ghost use Rattle.meaning.specs.Bench.{full};
-ghost use Rattle.meaning.specs.Packet.{wordNo};
-ghost use Rattle.units.specs.Word.{lsb};
-ghost use Rattle.state.specs.Machine.{machine, meaning};
-ghost use Rattle.state.specs.Consistent.{unfit};
-ghost use Rattle.listing.specs.Listing.{turn, handedOver};
-ghost use Rattle.asking.specs.Ask.{longest, Asks, Waiting};
+ghost use Rattle.meaning.specs.Bench.{full, hub};
+ghost use Rattle.settle.specs.Settled.{Seatable, Houseable};
+ghost use Rattle.handover.specs.Handed.{Waits};
+ghost use Rattle.asking.specs.Ask.{longestLine, Accepts, HandsOver, SeatPlays, HousePlays};
 
-// The state after a command, and the number of its refusal, or 0 and the count of its answer's words.
-pub struct Asked {
-    pub state: State,
-    pub refusal: u8,
-    pub words: Words,
+// A node and the words that all nodes hold, without its oldest answer; and the place in the output after that answer's line.
+pub struct Handed {
+    pub node: Node,
+    pub held: [Words; 17],
+    pub at: usize,
 }
 
-fn refused(state: State, refusal: u8) -> Asked
-    ensures { λ r. ⌜ r ≡ record { state = state; refusal = refusal; words = record { 0 = 0 } } ⌝ }
+// The oldest answer of the node at index i, which has one: its words written as a line, and taken away.
+fn hand_over(
+    i: usize,
+    own: Node,
+    held: [Words; 17],
+    store: &mut [u16],
+    out: &mut [u8],
+    to: usize,
+) -> Handed
+    requires { ⌜ Waits full i own held (now store) × (to + longestLine ≤ length (now out)) ⌝ }
+    ensures { λ r. ⌜ HandsOver full i own held (now (store .entry)) (now (store .exit)) (now (out .entry)) to (now (out .exit)) r ⌝ }
 {
-    Asked {
-        state,
-        refusal,
-        words: Words(0),
+    let place = place_of(held, i);
+    let end = place + store[place] as usize;
+    let at = put_words(out, to, &store[place..end]);
+    let less = take(held, i, store);
+    Handed {
+        node: own.taken(),
+        held: less,
+        at,
     }
 }
 
-// The answer that waits at a node: collected and acknowledged, on its list alone.
-fn hand_over(s: State, node: u8, store: &mut [u16], plaques: &[u8], answer: &mut [u16]) -> Asked
-    requires { ⌜ Waiting full node (machine s (now store) (now plaques)) ⌝ }
-    requires { ⌜ longest ≤ length (now answer) ⌝ }
-    ensures { λ r. ⌜ Asks full (handedOver full node (meaning full (machine s (now (store .entry)) (now (plaques .entry))))) r (now (answer .exit)) (machine (r .state) (now (store .exit)) (now (plaques .entry))) ⌝ }
-{
-    let i = node_slot(node);
-    let own = s.nodes[i];
-    let held = s.held;
-    let h = hand(i, own, held, store, answer);
-    let after = h.node;
-    let less = h.held;
-    let mut u = s;
-    u.nodes[i] = after;
-    u.held = less;
-    let words = h.words;
-    Asked {
-        state: u,
-        refusal: 0,
-        words,
-    }
+// The parts of a reader after a command, and the place in the output after its line.
+pub struct ReaderTurn {
+    pub seat: Seated,
+    pub at: usize,
 }
 
-// The answer stands at the front of what was lent for it, which has room for the longest.
-pub fn ask(
-    s: State,
+// A command for a reader.
+pub fn reader_turn(
+    own: Node,
+    x: Reader,
+    held: [Words; 17],
     t: Stamp,
+    kind: Kind,
+    m: Command,
     words: &[u16],
     store: &mut [u16],
     plaques: &mut [u8],
-    answer: &mut [u16],
-) -> Asked
-    requires { ⌜ unfit full (machine s (now store) (now plaques)) ≡ 0 ⌝ }
-    requires { ⌜ (3 ≤ length (now words)) × (longest ≤ length (now answer)) ⌝ }
-    ensures { λ r. ⌜ Asks full (turn full (meaning full (machine s (now (store .entry)) (now (plaques .entry)))) t (now (words .entry))) r (now (answer .exit)) (machine (r .state) (now (store .exit)) (now (plaques .exit))) ⌝ }
+    out: &mut [u8],
+    to: usize,
+) -> ReaderTurn
+    requires { ⌜ Accepts full t (now words) kind m × Seatable full (m .node) own x held (now store) (now plaques) ⌝ }
+    requires { ⌜ to + longestLine ≤ length (now out) ⌝ }
+    ensures { λ r. ⌜ SeatPlays full t (now (words .entry)) (m .node) own x held (now (store .entry)) (now (plaques .entry)) r
+        (now (store .exit)) (now (plaques .exit)) (now (out .entry)) to (now (out .exit)) ⌝ }
 {
-    let called = obey(s, t, Form::Register, words, store, plaques);
-    let u = called.state;
-    let reply = called.reply;
+    let data = command_data(words, Form::Register);
+    let seat = obeyed(own, x, held, t, kind, m, data, store, plaques);
+    let reply = seat.reply;
     match reply {
-        Reply::Refused(k) => refused(u, k),
-        Reply::Queued => hand_over(u, lsb(words[2]), store, plaques, answer),
+        Reply::Refused(k) => {
+            let at = put_refused(out, to, k);
+            ReaderTurn { seat, at }
+        }
+        Reply::Queued => {
+            let node = seat.node;
+            let more = seat.held;
+            let reader = seat.reader;
+            let h = hand_over((m.node - 1) as usize, node, more, store, out, to);
+            let after = h.node;
+            let less = h.held;
+            let left = Seated {
+                node: after,
+                held: less,
+                reader,
+                reply,
+            };
+            ReaderTurn {
+                seat: left,
+                at: h.at,
+            }
+        }
         // No command is said to be done or quiet.
-        Reply::Done => refused(u, 0),
-        Reply::Quiet => refused(u, 0),
+        Reply::Done => ReaderTurn { seat, at: to },
+        Reply::Quiet => ReaderTurn { seat, at: to },
+    }
+}
+
+// The parts of the gateway after a command for its own node, and the place in the output after its line.
+pub struct HubTurn {
+    pub house: Housed,
+    pub at: usize,
+}
+
+// A command for the gateway itself.
+pub fn hub_turn(
+    nodes: [Node; 17],
+    held: [Words; 17],
+    name: Name,
+    t: Stamp,
+    kind: Kind,
+    m: Command,
+    words: &[u16],
+    store: &mut [u16],
+    out: &mut [u8],
+    to: usize,
+) -> HubTurn
+    requires { ⌜ Accepts full t (now words) kind m × (m .node ≡ hub) × Houseable full nodes held name (now store) ⌝ }
+    requires { ⌜ to + longestLine ≤ length (now out) ⌝ }
+    ensures { λ r. ⌜ HousePlays full t (now (words .entry)) nodes held name (now (store .entry)) r (now (store .exit)) (now (out .entry)) to
+        (now (out .exit)) ⌝ }
+{
+    let data = command_data(words, Form::Register);
+    let house = governed(nodes, held, name, t, kind, m, data, store);
+    let reply = house.reply;
+    match reply {
+        Reply::Refused(k) => {
+            let at = put_refused(out, to, k);
+            HubTurn { house, at }
+        }
+        Reply::Queued => {
+            let mut ns = house.nodes;
+            let own = ns[16];
+            let more = house.held;
+            let title = house.name;
+            let h = hand_over(16, own, more, store, out, to);
+            let after = h.node;
+            let less = h.held;
+            ns[16] = after;
+            let left = Housed {
+                nodes: ns,
+                held: less,
+                name: title,
+                reply,
+            };
+            HubTurn {
+                house: left,
+                at: h.at,
+            }
+        }
+        // No command is said to be done or quiet.
+        Reply::Done => HubTurn { house, at: to },
+        Reply::Quiet => HubTurn { house, at: to },
     }
 }

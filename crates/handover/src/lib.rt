@@ -8,7 +8,6 @@ use promise::Handout;
 use promise::Reply;
 use responseout::bears;
 use state::State;
-use state::node::Node;
 use store::take;
 use units::Form;
 use units::Words;
@@ -17,13 +16,11 @@ ghost use mathlib.Core.Path.{_≡_};
 ghost use Prim.Native.Nat.{_+_, _≤_};
 ghost use lib.ListN.{length, getD, take, drop};
 ghost use Rattle.meaning.specs.Bench.{full};
-ghost use Rattle.meaning.specs.Packet.{overall};
 ghost use Rattle.meaning.specs.Call.{collect, acknowledge, step};
 ghost use Rattle.state.specs.Machine.{machine, meaning};
 ghost use Rattle.state.specs.Consistent.{unfit};
 ghost use Rattle.moves.specs.Moved.{putIn};
 ghost use Rattle.promise.specs.Obeyed.{Makes, Collects};
-ghost use Rattle.handover.specs.Handed.{Waits, HandsOver};
 
 pub fn acknowledge(s: State, node: u8, number: u16, store: &mut [u16], plaques: &[u8]) -> Called
     requires { ⌜ unfit full (machine s (now store) (now plaques)) ≡ 0 ⌝ }
@@ -97,27 +94,4 @@ pub fn collect(
     }
     copy_answer(store, place, out, 0);
     Handout::Handed(Words(words), n.handover)
-}
-
-// A node and the words that all nodes hold, without its oldest answer; and the words that this has.
-pub struct Handed {
-    pub node: Node,
-    pub held: [Words; 17],
-    pub words: Words,
-}
-
-// The oldest answer of the node at index i, which has one: copied to the front of the lent answer, and taken away.
-pub fn hand(i: usize, own: Node, held: [Words; 17], store: &mut [u16], answer: &mut [u16]) -> Handed
-    requires { ⌜ Waits full i own held (now store) × (overall 255 ≤ length (now answer)) ⌝ }
-    ensures { λ r. ⌜ HandsOver full i own held (now (store .entry)) (now (store .exit)) (now (answer .exit)) r ⌝ }
-{
-    let place = place_of(held, i);
-    let words = store[place];
-    copy_answer(store, place, answer, 0);
-    let less = take(held, i, store);
-    Handed {
-        node: own.taken(),
-        held: less,
-        words: Words(words),
-    }
 }

@@ -3,62 +3,28 @@
 // there too, and nothing more is played.
 use libc::STDERR_FILENO;
 use libc::STDIN_FILENO;
-use listingout::put_broken;
-use listingout::put_commands;
-use nightrun::walk::Walk;
-use nightrun::walk::open;
-use nightrun::walk::turn;
+use nightrun::LONGEST;
+use nightrun::Listed;
+use nightrun::list;
 use plaques::copy_bytes;
-use state::State;
 use streams::Got;
 use streams::put;
 use streams::take;
-use units::Bytes;
-use units::Words;
-ghost use mathlib.Core.Path.{_≡_};
-ghost use mathlib.Core.Bool.{false};
 ghost use Prim.Native.Nat.{_<_, _≤_};
 ghost use lib.ListN.{length};
-ghost use Rattle.meaning.specs.Bench.{full};
-ghost use Rattle.state.specs.Machine.{machine};
-ghost use Rattle.state.specs.Consistent.{unfit};
 
-// A line for each command. The results from here on say whether they could be written.
-fn write_turns(file: &[u8], begun: Walk, s: State, store: &mut [u16], plaques: &mut [u8]) -> bool
-    requires { ⌜ (begun .ended ≡ false) × (begun .at ≤ length (now file)) ⌝ }
-    requires { ⌜ unfit full (machine s (now store) (now plaques)) ≡ 0 ⌝ }
-{
-    let mut line = [0u8; 670];
-    let mut w = begun;
-    let mut t = s;
-    while !w.ended {
-        let r = turn(file, w, t, store, plaques, &mut line, 0);
-        let n = r.at;
-        if put(&line[..n]) < n {
-            return false;
-        }
-        w = r.walk;
-        t = r.state;
-    }
-    true
+// The results from here on say whether the listing could be written.
+fn write_into(file: &[u8], out: &mut [u8]) -> bool {
+    let Listed::Written(n) = list(file, out) else {
+        return false;
+    };
+    put(&out[..n]) == n
 }
 
+// With room for every listing. (In a function of its own: no proof then looks at each of so many bytes.)
 fn write_listing(file: &[u8]) -> bool {
-    let mut store = [0u16; Words::STORE.0 as usize];
-    let mut plaques = [0u8; Bytes::PLAQUES.0 as usize];
-    let fresh = state::fresh(&mut store);
-    let o = open(file, fresh, &store, &mut plaques);
-    let mut line = [0u8; 15];
-    if !o.fine {
-        let n = put_broken(&mut line, 0);
-        return put(&line[..n]) == n;
-    }
-    let begun = o.walk;
-    let n = put_commands(&mut line, 0, begun.left);
-    if put(&line[..n]) < n {
-        return false;
-    }
-    write_turns(file, begun, o.state, &mut store, &mut plaques)
+    let mut out = [0u8; LONGEST];
+    write_into(file, &mut out)
 }
 
 // Adds bytes behind the first n of a file, as many as there is room for; the result is how many it then has.

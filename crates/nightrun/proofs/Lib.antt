@@ -1,3 +1,4 @@
 pub mod Records
 pub mod Walking
+pub mod Playing
 pub mod Whole

@@ -13,9 +13,10 @@ use Rattle.units.proofs.Choice.{yes-cond, no-cond}
 use Rattle.meaning.specs.Bench.{Bench}
 use Rattle.meaning.specs.Gateway.{Gateway}
 use Rattle.meaning.specs.Call.{arrive, step}
-use Rattle.listing.specs.Records.{countWhole, countSaid, plaqueWhole, plaqueNode, plaqueLength, plaqueId, plaqueBytes, plaqueSize, commandWhole, commandStamp, commandLength, commandSize}
+use Rattle.listing.specs.Records.{countWhole, countSaid, plaqueWhole, plaqueNode, plaqueLength, plaqueId, plaqueBytes, plaqueSize}
+use Rattle.listing.specs.Records.{commandWhole, commandWords, commandLength, commandSize}
 use Rattle.listing.specs.Lines.{commandsLine, brokenLine, flat}
-use Rattle.listing.specs.Listing.{turn, turned, arrived, commandLines, countedLines, plaqueLines, fileLines}
+use Rattle.listing.specs.Listing.{turned, arrived, commandLines, countedLines, plaqueLines, fileLines}
 
 -- a line, then the others
 pub flat-more : {l : List ℕ} {ls ms : List (List ℕ)} → l ∷ ms ≡ ls → l ++ flat ms ≡ flat ls
@@ -27,9 +28,14 @@ part : (file : List ℕ) (at skip a z n : ℕ) → at + skip ≡ a → z - a ≡
 part file at skip a z n e f =
     ap (λ (k : ℕ). take k (drop a file)) f ∙ ap (take n) (ap (λ (k : ℕ). drop k file) (sym e) ∙ sym (drop-drop skip at file))
 
+pub words-at : (file : List ℕ) (at n : ℕ) → n ≡ commandLength (drop at file)
+    → packed (take (at + 5 + 2 * n - (at + 5)) (drop (at + 5) file)) ≡ commandWords (drop at file)
+words-at file at n e = ap packed (part file at 5 (at + 5) (at + 5 + 2 * n) (2 * commandLength (drop at file)) refl (omega (arith, e)))
+
 module _ (b : Bench) (g : Gateway) (file : List ℕ) (at : ℕ) where
   pub arrived-at : (n l : ℕ) → n ≡ plaqueNode (drop at file) → l ≡ plaqueLength (drop at file)
-      → (step b g (arrive n (take (at + 11 - (at + 3)) (drop (at + 3) file)) (take (at + 11 + l - (at + 11)) (drop (at + 11) file)))) .next ≡ arrived b g (drop at file)
+      → (step b g (arrive n (take (at + 11 - (at + 3)) (drop (at + 3) file)) (take (at + 11 + l - (at + 11)) (drop (at + 11) file)))) .next
+      ≡ arrived b g (drop at file)
   unfolding arrived
   arrived-at n l e f =
       let bs : List ℕ = drop at file in
@@ -40,13 +46,6 @@ module _ (b : Bench) (g : Gateway) (file : List ℕ) (at : ℕ) where
       ap (λ (k : ℕ). (step b g (arrive k x y)) .next) e
       ∙ ap (λ (k : List ℕ). (step b g (arrive (plaqueNode bs) k y)) .next) i
       ∙ ap (λ (k : List ℕ). (step b g (arrive (plaqueNode bs) (plaqueId bs) k)) .next) j
-
-  pub turned-at : (n : ℕ) → n ≡ commandLength (drop at file)
-      → turned b g (drop at file) ≡ turn b g (commandStamp (drop at file)) (packed (take (at + 5 + 2 * n - (at + 5)) (drop (at + 5) file)))
-  unfolding turned
-  turned-at n e =
-      ap (λ (x : List ℕ). turn b g (commandStamp (drop at file)) (packed x))
-      (sym (part file at 5 (at + 5) (at + 5 + 2 * n) (2 * commandLength (drop at file)) refl (omega arith)))
 
   -- ---- the plaques
   pub plaque-on : (k l : ℕ) → 0 < k → plaqueWhole b (drop at file) ≡ true → l ≡ plaqueLength (drop at file)
@@ -70,19 +69,19 @@ module _ (b : Bench) (g : Gateway) (file : List ℕ) (at : ℕ) where
   count-on (suc k) n h w e = absurd (omega (arith, h))
 
   -- ---- the commands
-  pub command-on : (k n : ℕ) → 0 < k → commandWhole (drop at file) ≡ true → n ≡ commandLength (drop at file)
+  pub command-on : (k z : ℕ) → 0 < k → commandWhole (drop at file) ≡ true → z ≡ 2 * commandLength (drop at file)
       → commandLines b k g (drop at file)
-      ≡ turned b g (drop at file) .line ∷ commandLines b (k - 1) (turned b g (drop at file) .after) (drop (at + 5 + 2 * n) file)
+      ≡ turned b g (drop at file) .line ∷ commandLines b (k - 1) (turned b g (drop at file) .after) (drop (at + 5 + z) file)
   unfolding commandLines
-  command-on zero n h w e = absurd (omega arith)
-  command-on (suc k) n h w e =
+  command-on zero z h w e = absurd (omega arith)
+  command-on (suc k) z h w e =
       let t = turned b g (drop at file) in
-      let a : at + commandSize (drop at file) ≡ at + 5 + 2 * n = omega (arith, e) in
+      let a : at + commandSize (drop at file) ≡ at + 5 + z = omega (arith, e) in
       let d : k ≡ suc k - 1 = omega arith in
       yes-cond (brokenLine ∷ []) w
       ∙ ap (λ (z : List ℕ). t .line ∷ commandLines b k (t .after) z)
       (drop-drop (commandSize (drop at file)) at file ∙ ap (λ (z : ℕ). drop z file) a)
-      ∙ ap (λ (z : ℕ). t .line ∷ commandLines b z (t .after) (drop (at + 5 + 2 * n) file)) d
+      ∙ ap (λ (k : ℕ). t .line ∷ commandLines b k (t .after) (drop (at + 5 + z) file)) d
 
 -- ---- broken, or at the end
 module _ (b : Bench) (g : Gateway) (bs : List ℕ) where

@@ -1,25 +1,59 @@
--- The whole night: from a blank gateway the lines of a file that was opened and of its turns, joined, are the listing.
+-- The whole night: from a blank gateway the lines of a file that was opened, joined, are the listing.
 -- Assumes nothing.
-use Prim.Native.Nat.{ℕ, _+_, _^_, _≤_, _<_}
+use Prim.Native.Nat.{ℕ, _^_, _≤_, _<_}
 use mathlib.Core.Path.{_≡_, refl, sym, ap, _∙_}
-use mathlib.Core.Bool.{Bool, true, false, cond}
-use mathlib.Core.List.{List, [], _∷_, _++_, map, append-nil}
+use mathlib.Core.Bool.{Bool, true, false, true≢false}
+use mathlib.Core.List.{List, [], _∷_, _++_, append-nil}
 use native.Mathlib.Omega.{arith}
-use lib.ListN.{length, take, drop, length-take, length-append}
-use lib.Seq.{sets-eq, slice, take-at, drop-at}
-use Rattle.meaning.specs.Bench.{Bench, full}
+use native.Mathlib.Nat.{zero-add}
+use lib.Dec.{leb}
+use lib.ListN.{length}
+use lib.Seq.{sets, length-sets}
+use borrow.Author.Tests.{le-leb, lt-leb}
+use Rattle.units.proofs.Choice.{yes-cond, no-cond}
+use Rattle.meaning.specs.Bench.{full}
 use Rattle.meaning.specs.Gateway.{Gateway}
 use Rattle.state.specs.Machine.{Machine, meaning}
 use Rattle.text.specs.Text.{Put}
-use Rattle.text.proofs.Writing.{put-turn, put-length, put-there}
+use Rattle.text.proofs.Writing.{put-as, put-then, put-length}
 use Rattle.listing.specs.Lines.{commandsLine, brokenLine, flat}
 use Rattle.listing.specs.Listing.{fileLines, blank, listing}
 use Rattle.listingout.proofs.Rooms.{commands-room}
-use Rattle.nightrun.specs.Walk.{toCome, firstOf, Turned, Opens, Made, Turns, textOf, nightText}
-use Rattle.nightrun.specs.declared.walk.Walk.{Walk}
-use Rattle.nightrun.specs.declared.walk.TurnTaken.{TurnTaken}
+use Rattle.nightrun.specs.Walk.{toCome, Opens, Ready, Plays, Lists}
+use Rattle.nightrun.specs.declared.Listed.{Listed}
 use Rattle.nightrun.specs.declared.walk.Opened.{Opened}
-use Rattle.nightrun.proofs.Walking.{Along, along-turn, gone, opened-broken, opened-fine, flat-on}
+use Rattle.nightrun.proofs.Walking.{opened-broken, opened-fine}
+
+-- ---- written, or not
+pub listed : (file old new : List ℕ) (r : ℕ) → 2600000 ≤ length old → Put old 0 (listing file) new r → r ≤ length old
+    → Lists file old new (Listed.Written r)
+listed file old new r h p room = record {
+  says = ap Listed.Written (p .next ∙ zero-add (length (listing file))) ∙ sym (yes-cond Listed.TooShort (le-leb 2600000 (length old) h));
+  writes = p .wrote ∙ sym (yes-cond old (le-leb 2600000 (length old) h));
+  fits = λ q. omega (arith, p .next, room);
+}
+
+pub not-listed : (file old : List ℕ) → length old < 2600000 → Lists file old old Listed.TooShort
+not-listed file old h = record {
+  says = sym (no-cond (Listed.Written (length (listing file))) (lt-leb 2600000 (length old) h));
+  writes = sym (no-cond (sets old 0 (listing file)) (lt-leb 2600000 (length old) h));
+  fits = λ q. absurd (true≢false (sym q ∙ lt-leb 2600000 (length old) h));
+}
+
+-- what is written stands inside the output
+pub listed-inside : {file old new : List ℕ} {r : Listed} {n : ℕ} → r ≡ Listed.Written n → Lists file old new r → n ≤ length new
+listed-inside {file} {old} {new} {r} {n} w l = go (leb 2600000 (length old)) refl
+  where
+    go : (t : Bool) → leb 2600000 (length old) ≡ t → n ≤ length new
+    go true e =
+        let q = l .says ∙ yes-cond Listed.TooShort e in
+        let z : n ≡ length (listing file) = cc in
+        let s : length new ≡ length old = ap length (l .writes ∙ yes-cond old e) ∙ simp length-sets in
+        omega (arith, l .fits e)
+    go false e =
+        let q = l .says ∙ no-cond (Listed.Written (length (listing file))) e in
+        let z : _≡_ {A = ℕ} 0 1 = cc in
+        omega arith
 
 -- ---- the listing of a file that was opened
 module _ {file : List ℕ} {g : Gateway} {o : Opened} {m : Machine} (from : g ≡ blank full) (opens : Opens full file g o m) where
@@ -31,53 +65,22 @@ module _ {file : List ℕ} {g : Gateway} {o : Opened} {m : Machine} (from : g �
   unfolding flat
   listing-broken e = sym (append-nil brokenLine) ∙ listing-is (brokenLine ∷ []) (opened-broken opens e)
 
-  pub listing-fine : o .fine ≡ true → commandsLine (o .walk .left) ++ flat (toCome full file (o .walk) (meaning full m)) ≡ listing file
-  unfolding flat
-  listing-fine e = listing-is (commandsLine (o .walk .left) ∷ toCome full file (o .walk) (meaning full m)) (opened-fine opens e)
+  -- the line of the command count, then the commands
+  module _ (fine : o .fine ≡ true) {old out : List ℕ} {to : ℕ} (head : Put old 0 (commandsLine (o .walk .left)) out to)
+      (long : 2600000 ≤ length old) where
+    listing-fine : commandsLine (o .walk .left) ++ flat (toCome full file (o .walk) (meaning full m)) ≡ listing file
+    unfolding flat
+    listing-fine = listing-is (commandsLine (o .walk .left) ∷ toCome full file (o .walk) (meaning full m)) (opened-fine opens fine)
 
-  -- the walk from the line of the command count on
-  module _ (fine : o .fine ≡ true) {old out : List ℕ} {to : ℕ} (few : o .walk .left < 10 ^ 5) (head : Put old 0 (commandsLine (o .walk .left)) out to) where
-    pub along-opened : Along full file old 0 (listing file) out to (o .walk) m
-    along-opened =
-        let l : List ℕ = commandsLine (o .walk .left) in
-        let k : l ++ flat (toCome full file (o .walk) (meaning full m)) ≡ listing file = listing-fine fine in
-        let low = commands-room (o .walk .left) head few in
-        record {
-          same = put-length head;
-          rest = put-turn (listing file) _ head (sym k) refl;
-          place = omega (arith, head .next, sym (length-append l _) ∙ ap length k);
-          room = λ q. omega (arith, low);
-          high = omega (arith, low);
-          inside = opens .inside fine;
-          sound = opens .sound;
-        }
+    pub ready-fine : o .walk .left < 10 ^ 5 → Ready (length file) (o .walk) (length out) to
+    ready-fine few = record {
+      inside = opens .inside fine;
+      short = opens .short fine;
+      long = omega (arith, put-length head, long);
+      room = omega (arith, commands-room (o .walk .left) head few);
+    }
 
-    -- and after the first turn
-    pub along-first : {new : List ℕ} {t : TurnTaken} {m′ : Machine} → Turned full file (o .walk) (meaning full m) out to new t m′
-        → Along full file old 0 (listing file) new (t .at) (t .walk) m′
-    along-first d = along-turn along-opened (opens .going fine) d
-
--- ---- the turns
-turns-lines : (b : Bench) (file : List ℕ) (w : Walk) (m : Machine) (ts : List Made) → Turns b file w m ts
-    → flat (map textOf ts) ≡ flat (toCome b file w (meaning b m))
-unfolding Turns flat textOf
-turns-lines b file w m [] e = sym (ap flat (gone b file w (meaning b m) e))
-turns-lines b file w m (t ∷ ts) c =
-    let d = c .2 in
-    let ls : List (List ℕ) = toCome b file w (meaning b m) in
-    let text : slice (t .to) (t .taken .at) (t .new) ≡ firstOf ls = put-there (d .line) (omega (arith, c .1, d .room, d .line .next)) in
-    ap (λ (x : List ℕ). x ++ flat (map textOf ts)) text
-    ∙ ap (λ (x : List ℕ). firstOf ls ++ x) (turns-lines b file (t .taken .walk) (t .after) ts (c .3) ∙ ap flat (d .more))
-    ∙ sym (flat-on ls)
-
--- whoever opens a file on a machine that means a blank gateway, and takes turns until the walk has ended, has the listing
-pub all-lines : (file : List ℕ) (m : Machine) (o : Opened) (m′ : Machine) (ts : List Made) → meaning full m ≡ blank full → Opens full file (meaning full m) o m′
-    → (o .fine ≡ true → Turns full file (o .walk) m′ ts) → nightText o ts ≡ listing file
-unfolding nightText
-all-lines file m o m′ ts from opens turns = go (o .fine) refl
-  where
-    go : (t : Bool) → o .fine ≡ t → cond t (commandsLine (o .walk .left) ++ flat (map textOf ts)) brokenLine ≡ listing file
-    go true e =
-        ap (λ (x : List ℕ). commandsLine (o .walk .left) ++ x) (turns-lines full file (o .walk) m′ ts (turns e))
-        ∙ listing-fine from opens e
-    go false e = listing-broken from opens e
+    pub listed-fine : {new : List ℕ} {r : ℕ} → Plays full file (o .walk) (meaning full m) out to new r
+        → Lists file old new (Listed.Written r)
+    listed-fine {new} {r} p =
+        listed file old new r long (put-as listing-fine (put-then head (p .text))) (omega (arith, p .fits, put-length head))

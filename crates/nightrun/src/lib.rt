@@ -1,15 +1,12 @@
-// The night run: a run file played on a fresh gateway, and its listing written. `list` writes the whole listing; a program that has not
-// that much memory opens the file and takes turns, a line each (specs/Walk.antt, and law `all-lines` for the whole).
-pub mod reply;
+// The night run: a run file played on a fresh gateway, and its whole listing written.
 pub mod walk;
 
 use crate::walk::open;
-use crate::walk::turn;
+use crate::walk::play;
 use listingout::put_broken;
 use listingout::put_commands;
 use units::Bytes;
 use units::Words;
-ghost use mathlib.Core.Path.{_≡_};
 ghost use Rattle.nightrun.specs.Walk.{Lists};
 
 // What writing a whole listing gives: its length, or that the output could be too short for one.
@@ -38,13 +35,5 @@ pub fn list(file: &[u8], out: &mut [u8]) -> Listed
     let begun = o.walk;
     let first = o.state;
     let to = put_commands(out, 0, begun.left);
-    // The first turn stands before the loop: called in two places, `turn` is not opened into the loop, which is faster.
-    let mut t = turn(file, begun, first, &mut store, &mut plaques, out, to);
-    let mut w = t.walk;
-    while !w.ended {
-        let s = t.state;
-        t = turn(file, w, s, &mut store, &mut plaques, out, t.at);
-        w = t.walk;
-    }
-    Listed::Written(t.at)
+    Listed::Written(play(file, begun, first, &mut store, &mut plaques, out, to))
 }

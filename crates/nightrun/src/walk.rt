@@ -1,8 +1,11 @@
 // The walk over a run file: the plaques first, then a line for each command.
-use crate::reply::put_reply;
-use asking::Asked;
-use asking::ask;
+use asking::hub_turn;
+use asking::reader_turn;
+use command::judge_command;
 use listingout::put_broken;
+use listingout::put_refused;
+use meaning::packet::Command;
+use meaning::table::Kind;
 use plaques::arrive;
 use runfile::CommandRecord;
 use runfile::CountRecord;
@@ -12,33 +15,25 @@ use runfile::read_count;
 use runfile::read_plaque;
 use state::State;
 use units::Bytes;
+use units::Form;
 use units::Words;
 use units::packing::pack;
 use units::stamp::Stamp;
 ghost use mathlib.Core.Path.{_≡_};
-ghost use mathlib.Core.Bool.{true, false};
-ghost use Prim.Native.Nat.{_+_, _*_, _<_, _≤_};
+ghost use mathlib.Core.Bool.{false};
+ghost use Prim.Native.Nat.{_+_, _≤_};
 ghost use lib.ListN.{length, drop};
 ghost use Rattle.meaning.specs.Bench.{full};
 ghost use Rattle.state.specs.Machine.{machine, meaning};
 ghost use Rattle.state.specs.Consistent.{unfit};
 ghost use Rattle.listing.specs.Records.{commandStamp};
-ghost use Rattle.listing.specs.Listing.{turned};
-ghost use Rattle.asking.specs.Ask.{Asks};
-ghost use Rattle.nightrun.specs.Walk.{PlaqueHere, Arrives, CommandHere, Turned, Brings, Opens};
+ghost use Rattle.asking.specs.Ask.{longest};
+ghost use Rattle.nightrun.specs.Walk.{PlaqueHere, Arrives, CommandHere, Hears, Ready, Plays, Brings, Opens};
 
-// Where the walk over the commands is: how many are to come by the count, and whether the listing has ended.
+// Where the walk over the commands is, and how many are to come by the count.
 pub struct Walk {
     pub at: usize,
     pub left: u16,
-    pub ended: bool,
-}
-
-// After a turn: the walk, the state, and the place in the output after the line.
-pub struct TurnTaken {
-    pub state: State,
-    pub walk: Walk,
-    pub at: usize,
 }
 
 // After the plaques: where the commands begin, or that the file is broken before them.
@@ -46,6 +41,14 @@ pub struct Opened {
     pub state: State,
     pub walk: Walk,
     pub fine: bool,
+}
+
+// A command record, heard: its stamp, and its packet judged.
+struct Heard {
+    stamp: Stamp,
+    refusal: u8,
+    kind: Kind,
+    what: Command,
 }
 
 // The five stamp bytes of the record at a place.
@@ -62,27 +65,25 @@ fn stamp_at(file: &[u8], at: usize) -> Stamp
     }
 }
 
-// The command record at a place, played.
-fn ask_at(
-    file: &[u8],
-    at: usize,
-    size: Words,
-    s: State,
-    store: &mut [u16],
-    plaques: &mut [u8],
-    answer: &mut [u16],
-) -> Asked
-    requires { ⌜ CommandHere (now file) at size ⌝ }
-    requires { ⌜ unfit full (machine s (now store) (now plaques)) ≡ 0 ⌝ }
-    requires { ⌜ length (now answer) ≡ 134 ⌝ }
-    ensures { λ r. ⌜ Asks full (turned full (meaning full (machine s (now (store .entry)) (now (plaques .entry)))) (drop at (now (file .entry)))) r (now (answer .exit)) (machine (r .state) (now (store .exit)) (now (plaques .exit))) ⌝ }
+// The command record at a place: its packet is put into the lent words, and judged with its stamp.
+fn hear(file: &[u8], at: usize, size: Words, words: &mut [u16]) -> Heard
+    requires { ⌜ CommandHere (now file) at size × (length (now words) ≡ longest) ⌝ }
+    ensures { λ r. ⌜ Hears (now (file .entry)) at size (now (words .exit)) r ⌝ }
 {
-    let mut words = [0u16; Words::PACKET.0 as usize];
     let from = at + 5;
     let n = size.0 as usize;
     let end = from + size.bytes().0 as usize;
-    pack(&file[from..end], &mut words);
-    ask(s, stamp_at(file, at), &words[..n], store, plaques, answer)
+    pack(&file[from..end], words);
+    let stamp = stamp_at(file, at);
+    let j = judge_command(stamp, Form::Register, &words[..n]);
+    let kind = j.kind;
+    let what = j.what;
+    Heard {
+        stamp,
+        refusal: j.refusal,
+        kind,
+        what,
+    }
 }
 
 // The plaque record at a place, arrived.
@@ -97,7 +98,8 @@ fn arrive_at(
 ) -> State
     requires { ⌜ PlaqueHere (now file) at node size ⌝ }
     requires { ⌜ unfit full (machine s (now store) (now plaques)) ≡ 0 ⌝ }
-    ensures { λ r. ⌜ Arrives full (meaning full (machine s (now (store .entry)) (now (plaques .entry)))) (drop at (now (file .entry))) (machine r (now (store .entry)) (now (plaques .exit))) ⌝ }
+    ensures { λ r. ⌜ Arrives full (meaning full (machine s (now (store .entry)) (now (plaques .entry)))) (drop at (now (file .entry)))
+        (machine r (now (store .entry)) (now (plaques .exit))) ⌝ }
 {
     let id = at + 3;
     let from = at + 11;
@@ -106,86 +108,89 @@ fn arrive_at(
     called.state
 }
 
-fn ended(w: Walk, state: State, at: usize) -> TurnTaken
-    ensures { λ r. ⌜ r ≡ record { walk = record { at = w .at; left = 0; ended = true }; state = state; at = at } ⌝ }
-{
-    let walk = Walk {
-        at: w.at,
-        left: 0,
-        ended: true,
-    };
-    TurnTaken { walk, state, at }
-}
-
-// The command at the walk's place, played, and its line.
-fn command_turn(
+// The commands, a line each. The state is a local of this loop: what a command may change is taken out of it, and put back.
+pub fn play(
     file: &[u8],
-    w: Walk,
-    size: Words,
-    s: State,
+    begun: Walk,
+    opened: State,
     store: &mut [u16],
     plaques: &mut [u8],
     out: &mut [u8],
-    to: usize,
-) -> TurnTaken
-    requires { ⌜ (w .ended ≡ false) × (0 < w .left) × (to + 670 ≤ length (now out)) ⌝ }
-    requires { ⌜ CommandHere (now file) (w .at) size ⌝ }
-    requires { ⌜ unfit full (machine s (now store) (now plaques)) ≡ 0 ⌝ }
-    ensures { λ r. ⌜ Turned full (now (file .entry)) w (meaning full (machine s (now (store .entry)) (now (plaques .entry)))) (now (out .entry)) to (now (out .exit)) r (machine (r .state) (now (store .exit)) (now (plaques .exit))) ⌝ }
+    start: usize,
+) -> usize
+    requires { ⌜ Ready (length (now file)) begun (length (now out)) start ⌝ }
+    requires { ⌜ unfit full (machine opened (now store) (now plaques)) ≡ 0 ⌝ }
+    ensures { λ r. ⌜ Plays full (now (file .entry)) begun (meaning full (machine opened (now (store .entry)) (now (plaques .entry))))
+        (now (out .entry)) start (now (out .exit)) r ⌝ }
 {
-    let at = w.at;
-    let mut answer = [0u16; Words::PACKET.0 as usize];
-    let asked = ask_at(file, at, size, s, store, plaques, &mut answer);
-    let n = asked.words.0 as usize;
-    let next = put_reply(out, to, asked.refusal, &answer[..n]);
-    let walk = Walk {
-        at: at + 5 + size.bytes().0 as usize,
-        left: w.left - 1,
-        ended: false,
-    };
-    let state = asked.state;
-    TurnTaken {
-        walk,
-        state,
-        at: next,
-    }
-}
-
-// The next line of the listing, and the walk after it.
-pub fn turn(
-    file: &[u8],
-    w: Walk,
-    s: State,
-    store: &mut [u16],
-    plaques: &mut [u8],
-    out: &mut [u8],
-    to: usize,
-) -> TurnTaken
-    requires { ⌜ (w .ended ≡ false) × (w .at ≤ length (now file)) × (to + 670 ≤ length (now out)) ⌝ }
-    requires { ⌜ unfit full (machine s (now store) (now plaques)) ≡ 0 ⌝ }
-    ensures { λ r. ⌜ Turned full (now (file .entry)) w (meaning full (machine s (now (store .entry)) (now (plaques .entry)))) (now (out .entry)) to (now (out .exit)) r (machine (r .state) (now (store .exit)) (now (plaques .exit))) ⌝ }
-{
-    let at = w.at;
-    if w.left == 0 {
-        if at == file.len() {
-            return ended(w, s, to);
+    let mut packet = [0u16; Words::PACKET.0 as usize];
+    let mut s = opened;
+    let mut at = begun.at;
+    let mut left = begun.left;
+    let mut to = start;
+    while 0 < left {
+        let CommandRecord::Command(size) = read_command(file, at) else {
+            return put_broken(out, to);
+        };
+        let h = hear(file, at, size, &mut packet);
+        let n = size.0 as usize;
+        let kind = h.kind;
+        let m = h.what;
+        let t = h.stamp;
+        let held = s.held;
+        if h.refusal != 0 {
+            to = put_refused(out, to, h.refusal);
+        } else if m.node == 32 {
+            let nodes = s.nodes;
+            let name = s.name;
+            let r = hub_turn(nodes, held, name, t, kind, m, &packet[..n], store, out, to);
+            let after = r.house;
+            let ns = after.nodes;
+            let hs = after.held;
+            let title = after.name;
+            s.nodes = ns;
+            s.held = hs;
+            s.name = title;
+            to = r.at;
+        } else {
+            let i = (m.node - 1) as usize;
+            let own = s.nodes[i];
+            let x = s.readers[i];
+            let r = reader_turn(
+                own,
+                x,
+                held,
+                t,
+                kind,
+                m,
+                &packet[..n],
+                store,
+                plaques,
+                out,
+                to,
+            );
+            let after = r.seat;
+            let node = after.node;
+            let hs = after.held;
+            let reader = after.reader;
+            s.nodes[i] = node;
+            s.held = hs;
+            s.readers[i] = reader;
+            to = r.at;
         }
-        return ended(w, s, put_broken(out, to));
+        at = at + 5 + size.bytes().0 as usize;
+        left -= 1;
     }
-    let CommandRecord::Command(size) = read_command(file, at) else {
-        return ended(w, s, put_broken(out, to));
-    };
-    command_turn(file, w, size, s, store, plaques, out, to)
+    if at != file.len() {
+        return put_broken(out, to);
+    }
+    to
 }
 
 fn broken(state: State) -> Opened
-    ensures { λ r. ⌜ r ≡ record { walk = record { at = 0; left = 0; ended = true }; state = state; fine = false } ⌝ }
+    ensures { λ r. ⌜ r ≡ record { walk = record { at = 0; left = 0 }; state = state; fine = false } ⌝ }
 {
-    let walk = Walk {
-        at: 0,
-        left: 0,
-        ended: true,
-    };
+    let walk = Walk { at: 0, left: 0 };
     Opened {
         walk,
         state,
@@ -197,7 +202,8 @@ fn broken(state: State) -> Opened
 fn bring(file: &[u8], count: u16, s: State, store: &[u16], plaques: &mut [u8]) -> Opened
     requires { ⌜ (2 ≤ length (now file)) × (length (now file) ≤ 65536) ⌝ }
     requires { ⌜ unfit full (machine s (now store) (now plaques)) ≡ 0 ⌝ }
-    ensures { λ r. ⌜ Brings full count (now (file .entry)) (meaning full (machine s (now (store .entry)) (now (plaques .entry)))) r (machine (r .state) (now (store .entry)) (now (plaques .exit))) ⌝ }
+    ensures { λ r. ⌜ Brings full count (now (file .entry)) (meaning full (machine s (now (store .entry)) (now (plaques .entry)))) r
+        (machine (r .state) (now (store .entry)) (now (plaques .exit))) ⌝ }
 {
     let mut at = 2;
     let mut left = count;
@@ -216,7 +222,6 @@ fn bring(file: &[u8], count: u16, s: State, store: &[u16], plaques: &mut [u8]) -
     let walk = Walk {
         at: at + 2,
         left: commands,
-        ended: false,
     };
     Opened {
         walk,
@@ -227,7 +232,8 @@ fn bring(file: &[u8], count: u16, s: State, store: &[u16], plaques: &mut [u8]) -
 
 pub fn open(file: &[u8], s: State, store: &[u16], plaques: &mut [u8]) -> Opened
     requires { ⌜ unfit full (machine s (now store) (now plaques)) ≡ 0 ⌝ }
-    ensures { λ r. ⌜ Opens full (now (file .entry)) (meaning full (machine s (now (store .entry)) (now (plaques .entry)))) r (machine (r .state) (now (store .entry)) (now (plaques .exit))) ⌝ }
+    ensures { λ r. ⌜ Opens full (now (file .entry)) (meaning full (machine s (now (store .entry)) (now (plaques .entry)))) r
+        (machine (r .state) (now (store .entry)) (now (plaques .exit))) ⌝ }
 {
     if 65536 < file.len() {
         return broken(s);

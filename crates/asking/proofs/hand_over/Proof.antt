@@ -1,55 +1,112 @@
-use mathlib.Core.Path.{refl}
+-- `asking::hand_over` meets its contract: the words that are written are the oldest answer's, since it stands at its node's place on every
+-- machine that the parts are of; and the store and the counts are then those without it.
+-- Assumes nothing.
+use Prim.Native.Nat.{ℕ, _+_, _-_}
+use mathlib.Core.Path.{_≡_, ap, _∙_}
+use mathlib.Core.List.{List}
+use native.Mathlib.Omega.{arith}
 use denote.Ref.{now}
+use lib.ListN.{length, getD, take, drop}
 use Rattle.meaning.specs.Bench.{full}
 use Rattle.state.specs.Machine.{Machine, machine}
-use Rattle.asking.proofs.Asking.{inside, slot-is, slot, waits-here, asks-handed}
+use Rattle.text.specs.Text.{wordsLine}
+use Rattle.text.proofs.Writing.{put-as}
+use Rattle.promise.proofs.Parts.{parts}
+use Rattle.handover.proofs.Served.{Stands}
+use Rattle.handover.proofs.Handing.{inside, first, lies, first-is, slot-takeable, slot-taken}
 use borrow.Author.Needs.{needs}
 use Rattle.asking.proofs.hand_over.Statement.{statement}
 use Rattle.asking.proofs.hand_over.Tie as tie
 
-abbrev given : tie.Start → Machine
-given s = machine (s .args .t1) (now (s .args .store)) (now (s .args .plaques))
+-- the part of the store that is lent is the answer
+lent : {m : Machine} {place : ℕ} {w : List ℕ} → Stands m place w
+    → take (place + getD (m .store) place 0 - place) (drop place (m .store)) ≡ w
+lent {m} {place} h =
+    let e : place + getD (m .store) place 0 - place ≡ getD (m .store) place 0 = omega arith in
+    ap (λ (k : ℕ). take k (drop place (m .store))) e ∙ h .words
 
-mul-own : tie.Need-mul-own
-mul-own c =
-    let s = c .before .before .before .before in
-    let i = inside (given s) (s .args .node) _ (s .pre .0) (c .node-slot .ensures) in
-    search needs
+-- the machine that is known, and the answer that waits there
+abbrev known : tie.Start → Machine
+known s = machine (s .pre .0 .state) (now (s .args .store)) (s .pre .0 .memory)
 
-element-own : tie.Need-element-copy-out-own
-element-own c = let s = c .before .before .before .before in inside (given s) (s .args .node) _ (s .pre .0) (c .node-slot .ensures)
+abbrev waiting : tie.Start → List ℕ
+waiting s =
+    let w = s .pre .0 in
+    first (w .state) (now (s .args .store)) (w .memory) (w .fit) (w .number) (w .is) (w .at) (w .slot) (w .some)
 
-hand-requires : tie.Need-hand-requires
-hand-requires c κs =
-    let k = c .before .before .before .before in
-    let s = k .before .before .before .before in
-    (waits-here (given s) (s .args .node) _ (s .pre .0) (k .node-slot .ensures), s .pre .1)
+stands-here : (c : tie.After-place-of)
+    → Stands (known (c .before .before .before)) (c .place-of .result) (waiting (c .before .before .before))
+stands-here c =
+    let s = c .before .before .before in
+    let w = s .pre .0 in
+    lies (w .state) (now (s .args .store)) (w .memory) (w .fit) (w .number) (w .is) (w .at) (w .slot) (w .some) _ (c .place-of .ensures)
 
-mul-after : tie.Need-mul-after
-mul-after c =
-    let k = c .before .before .before .before .before .before .before .before .before .before .before in
-    let s = k .before .before .before .before in
-    let i = inside (given s) (s .args .node) _ (s .pre .0) (k .node-slot .ensures) in
-    search needs
+stored : (s : tie.Start) → length (now (s .args .store)) ≡ full .store
+stored s = parts full (known s) (s .pre .0 .fit) .store
 
-element-after : tie.Need-element-set-from-after
-element-after c =
-    let k = c .before .before .before .before .before .before .before .before .before .before .before in
-    let s = k .before .before .before .before in
-    inside (given s) (s .args .node) _ (s .pre .0) (k .node-slot .ensures)
+place-of-requires : tie.Need-place-of-requires
+place-of-requires c κs =
+    let s = c .before .before in
+    let w = s .pre .0 in
+    omega (arith, inside (w .state) (now (s .args .store)) (w .memory) (w .fit) (w .number) (w .is) (w .at) (w .slot) (w .some))
+
+mul-end : tie.Need-mul-end
+mul-end c = record { fits = omega (arith, stands-here c .inside, stored (c .before .before .before)) }
+
+slice-read-end : tie.Need-slice-read-end
+slice-read-end c = let h = stands-here (c .before) in omega (arith, h .inside, h .least)
+
+cast-end : tie.Need-cast-end
+cast-end c = let h = stands-here (c .before) in record { fits = omega (arith, h .says, h .most) }
+
+add-end : tie.Need-add-end
+add-end c =
+    let h = stands-here (c .before) in
+    record { fits = omega (arith, h .says, h .inside, stored (c .before .before .before .before)) }
+
+mul-part : tie.Need-mul-put-words
+mul-part c =
+    let p = c .before .before in
+    record { fits = omega (arith, stands-here p .inside, stored (p .before .before .before)) }
+
+part-end : tie.Need-part-put-words-end
+part-end c = let h = stands-here (c .before .before .before) in omega (arith, h .says, h .inside)
+
+put-words-requires : tie.Need-put-words-requires
+put-words-requires c κs =
+    let p = c .before .before .before .before in
+    let h = stands-here p in
+    omega (arith, h .most, ap length (lent h), p .before .before .before .pre .1)
+
+take-requires : tie.Need-take-requires
+take-requires c κs =
+    let s = c .before .before .before .before .before .before .before .before .before .before .before in
+    let w = s .pre .0 in
+    slot-takeable (w .state) (now (s .args .store)) (w .memory) (w .fit) (w .number) (w .is) (w .at) (w .slot) (w .some)
 
 returns : tie.Need-returns
-returns c =
-    let h = c .before .before .before .before .before .before .before in
-    let k = h .before .before .before .before .before in
-    let s = k .before .before .before .before in
-    let a = s .args in
-    let e = k .node-slot .ensures in
-    asks-handed full (a .node) (given s) (s .pre .0)
-    (h .hand .ensures (a .node) (s .pre .0 .node) (slot-is (given s) (a .node) _ (s .pre .0) e) (a .t1) (now (a .plaques))
-    (slot (given s) (a .node) _ (s .pre .0) e) (s .pre .0 .sound)) refl
+returns c n is at s memory a fit =
+    let t = c .before .before .before in
+    let q = t .before .before .before .before in
+    let p = q .before .before .before .before .before in
+    let b = p .before .before .before in
+    let store = now (b .args .store) in
+    let some = b .pre .0 .some in
+    let l = lies s store memory fit n is at a some _ (p .place-of .ensures) in
+    let f = first-is s store memory fit n is at a some in
+    let w = slot-taken s store memory fit n is at a some (t .take .ensures) (c .taken .ensures) in
+    record {
+      oldest = first s store memory fit n is at a some;
+      others = f .0;
+      pending = f .1;
+      few = l .most;
+      line = put-as (ap wordsLine (lent l)) (q .put-words .ensures);
+      fit = w .fit;
+      means = w .means;
+    }
 
 pub hand-over-spec : {M : Type 1} → statement M
 hand-over-spec =
     tie.close
-    (tie.spec (λ c κs. search needs) mul-own element-own hand-requires mul-after element-after (λ c. search needs) (λ c. search needs) returns)
+    (tie.spec place-of-requires mul-end slice-read-end cast-end add-end mul-part (λ c. search needs) (λ c. search needs) part-end
+    put-words-requires take-requires (λ c κs. search needs) (λ c. search needs) (λ c. search needs) returns)

@@ -1,3 +1,4 @@
+-- The loop keeps the place inside the file, and each turn that adds bytes moves it on.
 use mathlib.Core.Path.{_≡_, sym}
 use native.Mathlib.Omega.{arith}
 use Prim.Native.Nat.{_-_, _≤_}
@@ -12,27 +13,6 @@ Inv-loop fd file₀ chunk₀ n₀ file chunk n = (length file ≡ length file₀
 
 abbrev μ-loop : tie.MeasureT-loop
 μ-loop fd file₀ chunk₀ n₀ file chunk n = length file - n
-
-buffer-requires : tie.Need-buffer-requires Inv-loop μ-loop
-buffer-requires c κs = search needs
-
-loop-holds : tie.Need-loop-holds Inv-loop μ-loop
-loop-holds c = search needs
-
-slice-aggregate-take : tie.Need-slice-aggregate-take Inv-loop μ-loop
-slice-aggregate-take c = search needs
-
-take-requires : tie.Need-take-requires Inv-loop μ-loop
-take-requires c κs = search needs
-
-same-length : tie.Need-same-length Inv-loop μ-loop
-same-length c = search needs
-
-returns : tie.Need-returns Inv-loop μ-loop
-returns c = search needs
-
-array-share-prefix-chunk : tie.Need-array-share-prefix-chunk Inv-loop μ-loop
-array-share-prefix-chunk c = search needs
 
 slice-aggregate-add : tie.Need-slice-aggregate-add Inv-loop μ-loop
 slice-aggregate-add c =
@@ -49,28 +29,8 @@ loop-less c = omega (arith, c .before .before .add .ensures)
 loop-again : tie.Need-loop-again Inv-loop μ-loop
 loop-again c = (search needs, search needs, c .before .before .add .ensures .1)
 
-same-length-2 : tie.Need-same-length-2 Inv-loop μ-loop
-same-length-2 c = search needs
-
-returns-2 : tie.Need-returns-2 Inv-loop μ-loop
-returns-2 c = search needs
-
 pub read-file-spec : {M : Type 1} → statement M
 read-file-spec =
     tie.close
-    (tie.spec
-    Inv-loop
-    μ-loop
-    buffer-requires
-    loop-holds
-    slice-aggregate-take
-    take-requires
-    same-length
-    returns
-    array-share-prefix-chunk
-    slice-aggregate-add
-    add-requires
-    loop-less
-    loop-again
-    same-length-2
-    returns-2)
+    (tie.spec Inv-loop μ-loop (λ c κs. search needs) (λ c. search needs) (λ c. search needs) (λ c κs. search needs) (λ c. search needs)
+    (λ c. search needs) (λ c. search needs) slice-aggregate-add add-requires loop-less loop-again (λ c. search needs) (λ c. search needs))

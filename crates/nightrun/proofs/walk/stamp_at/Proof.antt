@@ -1,35 +1,9 @@
+-- The record is whole, so its five stamp bytes stand in the file; the definition takes them at the front of what is left.
 use denote.Ref.{now}
 use Rattle.nightrun.proofs.Walking.{stamp-is}
 use borrow.Author.Needs.{needs}
 use Rattle.nightrun.proofs.walk.stamp_at.Statement.{statement}
 use Rattle.nightrun.proofs.walk.stamp_at.Tie as tie
-
-shared-slice-read-t4 : tie.Need-shared-slice-read-t4
-shared-slice-read-t4 c = search needs
-
-add-t5 : tie.Need-add-t5
-add-t5 c = search needs
-
-shared-slice-read-t7 : tie.Need-shared-slice-read-t7
-shared-slice-read-t7 c = search needs
-
-add-t8 : tie.Need-add-t8
-add-t8 c = search needs
-
-shared-slice-read-t10 : tie.Need-shared-slice-read-t10
-shared-slice-read-t10 c = search needs
-
-add-t11 : tie.Need-add-t11
-add-t11 c = search needs
-
-shared-slice-read-t13 : tie.Need-shared-slice-read-t13
-shared-slice-read-t13 c = search needs
-
-add-t14 : tie.Need-add-t14
-add-t14 c = search needs
-
-shared-slice-read-t16 : tie.Need-shared-slice-read-t16
-shared-slice-read-t16 c = search needs
 
 returns : tie.Need-returns
 returns c = stamp-is (now (c .before .before .before .before .before .args .file)) (c .before .before .before .before .before .args .at)
@@ -37,14 +11,5 @@ returns c = stamp-is (now (c .before .before .before .before .before .args .file
 pub stamp-at-spec : {M : Type 1} → statement M
 stamp-at-spec =
     tie.close
-    (tie.spec
-    shared-slice-read-t4
-    add-t5
-    shared-slice-read-t7
-    add-t8
-    shared-slice-read-t10
-    add-t11
-    shared-slice-read-t13
-    add-t14
-    shared-slice-read-t16
-    returns)
+    (tie.spec (λ c. search needs) (λ c. search needs) (λ c. search needs) (λ c. search needs) (λ c. search needs) (λ c. search needs)
+    (λ c. search needs) (λ c. search needs) (λ c. search needs) returns)

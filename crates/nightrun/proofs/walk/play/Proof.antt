@@ -1,0 +1,211 @@
+-- The loop's invariant is `Along`: what is still to come makes the whole text. Each way around writes one line of it, and leaves a
+-- consistent machine that means the gateway after that command. The measure is how many commands are to come.
+use Prim.Native.Nat.{ℕ, _+_, _-_, _≤_, _<_}
+use mathlib.Core.Path.{_≡_, refl, sym, _∙_}
+use mathlib.Core.Bool.{true}
+use mathlib.Core.Logic.{⊎-elim}
+use native.Mathlib.Omega.{arith}
+use lib.ListN.{length, drop, length-replicate}
+use denote.Ref.{now}
+use borrow.Author.Needs.{needs}
+use Rattle.meaning.specs.Bench.{full, isReader}
+use Rattle.state.specs.Machine.{Machine, machine, meaning}
+use Rattle.promise.proofs.Parts.{parts}
+use Rattle.obey.proofs.Taking.{first, inside, seatable, houseable}
+use Rattle.text.proofs.Writing.{put-length}
+use Rattle.runfile.proofs.Records.{command-unread}
+use Rattle.nightrun.specs.Walk.{CommandHere}
+use Rattle.nightrun.proofs.Walking.{CommandThere, command-there, command-here}
+use Rattle.nightrun.proofs.Playing.{plays-as, packet-inside, packet-long, accepts-here, reader-here}
+use Rattle.nightrun.proofs.Playing.{played-refused, played-hub, played-reader}
+use Rattle.nightrun.proofs.Playing.{Along, along-begun, along-played, along-room, along-short, along-left, along-clean}
+use Rattle.nightrun.proofs.walk.play.Statement.{statement}
+use Rattle.nightrun.proofs.walk.play.Tie as tie
+
+abbrev Inv-loop : tie.InvT-loop
+Inv-loop file store₀ plaques₀ out₀ start packet₀ s₀ at₀ left₀ to₀ store plaques out packet s at left to =
+    (length packet ≡ 134)
+    × Along full file (record { at = at₀; left = left₀ }) (meaning full (machine s₀ store₀ plaques₀)) out₀ to₀ out to at left
+    (machine s store plaques)
+
+abbrev μ-loop : tie.MeasureT-loop
+μ-loop file store₀ plaques₀ out₀ start packet₀ s₀ at₀ left₀ to₀ store plaques out packet s at left to = left
+
+-- ---- at the loop's test: the machine, the room, and the lengths, which are as they were
+abbrev start : (p : tie.At-loop Inv-loop μ-loop) → tie.Start Inv-loop μ-loop
+start p = p .before .before .before .before .before
+
+abbrev whole : (p : tie.At-loop Inv-loop μ-loop) → Machine
+whole p = machine (p .loop .s) (p .loop .store) (p .loop .plaques)
+
+room : (p : tie.At-loop Inv-loop μ-loop) → p .loop .to + 670 ≤ length (p .loop .out)
+room p = along-room (p .loop .inv .1) (start p .pre .0)
+
+same-store : (p : tie.At-loop Inv-loop μ-loop) → length (p .loop .store) ≡ length (now (start p .args .store))
+same-store p = parts full _ (p .loop .inv .1 .sound) .store ∙ sym (parts full _ (start p .pre .1) .store)
+
+same-plaques : (p : tie.At-loop Inv-loop μ-loop) → length (p .loop .plaques) ≡ length (now (start p .args .plaques))
+same-plaques p = parts full _ (p .loop .inv .1 .sound) .memory ∙ sym (parts full _ (start p .pre .1) .memory)
+
+-- ---- in a turn: the record that was read ..
+abbrev turn : (p : tie.After-size Inv-loop μ-loop) → tie.At-loop Inv-loop μ-loop
+turn p = p .before .before .before .before
+
+here : (p : tie.After-size Inv-loop μ-loop) → CommandHere (now (start (turn p) .args .file)) (turn p .loop .at) (p .size .given .0 .0)
+here p =
+    command-here (now (start (turn p) .args .file)) (turn p .loop .at) (sym (p .size .given .1) ∙ p .before .before .read-command .ensures)
+
+there : (p : tie.After-size Inv-loop μ-loop)
+    → CommandThere (now (start (turn p) .args .file)) (turn p .loop .at) (p .size .given .0 .0 .0)
+there p = command-there (now (start (turn p) .args .file)) (turn p .loop .at) (here p)
+
+-- .. and a packet that is accepted, and not for the gateway, is a reader's
+abbrev read : (p : tie.Else2 Inv-loop μ-loop) → tie.After-hear Inv-loop μ-loop
+read p = p .before .before .before .before .before .before .before .before .before
+
+is : (p : tie.Else2 Inv-loop μ-loop) → isReader full (read p .hear .result .what .node) ≡ true
+is p = reader-here (read p .hear .ensures) (p .before .before .if1 .left) (p .if2 .left)
+
+index : (p : tie.Else2 Inv-loop μ-loop) → read p .hear .result .what .node - 1 < 16
+index p =
+    let h = p .before .before .before .before .before .before .before .before .before in
+    let l = h .before .before .before .before .before .before .before in
+    inside (whole l) (l .loop .inv .1 .sound) (h .hear .result .what .node) _ (is p) refl
+
+-- ---- the needs
+loop-holds : tie.Need-loop-holds Inv-loop μ-loop
+loop-holds c = let s = c .before .before .before .before in (length-replicate {A = ℕ} 134 0, along-begun (s .pre .0) (s .pre .1))
+
+put-broken-requires : tie.Need-put-broken-requires Inv-loop μ-loop
+put-broken-requires c κs = omega (arith, room (c .before .before .before .before .before))
+
+returns : tie.Need-returns Inv-loop μ-loop
+returns c =
+    let p = c .before .before in
+    let e = p .before .before in
+    let r = e .before .before in
+    let l = r .before .before in
+    along-short (l .loop .inv .1) (start l .pre .0) (r .before .loop-test .taken)
+    (command-unread (drop (l .loop .at) (now (start l .args .file))) (sym (e .enum-told .given .1) ∙ r .read-command .ensures))
+    (p .put-broken .ensures)
+
+put-refused-requires : tie.Need-put-refused-requires Inv-loop μ-loop
+put-refused-requires c κs =
+    omega (
+      arith,
+      room (c .before .before .before .before .before .before .before .before .before .before .before .before .before .before
+          .before),
+    )
+
+hub-turn-requires : tie.Need-hub-turn-requires Inv-loop μ-loop
+hub-turn-requires c κs =
+    let t = c .before .before .before .before .before in
+    let i = t .before .before in
+    let h = i .before .before .before .before .before .before .before in
+    let l = h .before .before .before .before .before .before .before in
+    ((accepts-here (h .hear .ensures) (i .if1 .left), t .if2 .taken, houseable (whole l) (l .loop .inv .1 .sound)), room l)
+
+sub-i : tie.Need-sub-i Inv-loop μ-loop
+sub-i c =
+    let t = c .before in
+    let h = t .before .before .before .before .before .before .before .before .before in
+    let l = h .before .before .before .before .before .before .before in
+    first (whole l) (l .loop .inv .1 .sound) (h .hear .result .what .node) _ (is t) refl
+
+reader-turn-requires : tie.Need-reader-turn-requires Inv-loop μ-loop
+reader-turn-requires c κs =
+    let t = c .before .before .before .before .before .before .before in
+    let i = t .before .before in
+    let h = i .before .before .before .before .before .before .before in
+    let l = h .before .before .before .before .before .before .before in (
+      (
+        accepts-here (h .hear .ensures) (i .if1 .left),
+        seatable (whole l) (l .loop .inv .1 .sound) (h .hear .result .what .node) _ (is t) refl,
+      ),
+      room l,
+    )
+
+add-at : tie.Need-add-at Inv-loop μ-loop
+add-at c =
+    let z = c .before .before .before .before .before .before .before .before .before .before in
+    let h = there z in
+    record { fits = omega (arith, h .inside, start (turn z) .pre .0 .short) }
+
+bytes-requires : tie.Need-bytes-requires Inv-loop μ-loop
+bytes-requires c κs =
+    let h = there (c .before .before .before .before .before .before .before .before .before .before) in
+    omega (arith, h .facts .high)
+
+add-at-2 : tie.Need-add-at-2 Inv-loop μ-loop
+add-at-2 c =
+    let z = c .before .before .before .before .before .before .before .before .before .before .before .before in
+    let h = there z in
+    record { fits = omega (arith, h .inside, c .before .bytes .ensures, start (turn z) .pre .0 .short) }
+
+loop-again : tie.Need-loop-again Inv-loop μ-loop
+loop-again c =
+    let y = c .before .before .before .before .before .before .before .before .before in
+    let z = y .before .before .before in
+    let l = z .before .before .before .before in
+    let v = l .loop .inv .1 in
+    let h = y .hear .ensures in (
+      h .long,
+      along-played v (z .before .before .before .loop-test .taken) (here z) (c .before .bytes .ensures)
+          (⊎-elim (λ w. plays-as (w .5) (w .6) (w .7) (w .8) (w .9) (played-refused h (w .0 .taken) (v .sound) (w .2 .ensures)))
+          (⊎-elim
+          (λ w. plays-as (w .17) (w .18) (w .19) (w .20) (w .21) (played-hub h (whole l) (v .sound) (w .8 .result) (w .8 .ensures)))
+          (λ w. plays-as (w .21) (w .22) (w .23) (w .24) (w .25)
+          (played-reader h (whole l) (v .sound) (w .10 .result) (reader-here h (w .0 .left) (w .2 .left)) (w .10 .ensures))))
+          (c .before .before .if1 .came)),
+    )
+
+put-broken-requires-2 : tie.Need-put-broken-requires-2 Inv-loop μ-loop
+put-broken-requires-2 c κs = omega (arith, room (c .before .before .before))
+
+returns-2 : tie.Need-returns-2 Inv-loop μ-loop
+returns-2 c =
+    let p = c .before .before in
+    let i = p .before .before in
+    let l = i .before .before in
+    let f = i .before .loop-test .left in
+    let g = i .if3 .taken in
+    along-left (l .loop .inv .1) (start l .pre .0) (omega arith) (λ e. omega arith) (p .put-broken2 .ensures)
+
+returns-3 : tie.Need-returns-3 Inv-loop μ-loop
+returns-3 c =
+    let l = c .before .before in
+    let f = c .before .loop-test .left in
+    let g = c .if3 .left in
+    along-clean (l .loop .inv .1) (start l .pre .0) (omega arith) (omega arith)
+
+pub play-spec : {M : Type 1} → statement M
+play-spec =
+    tie.close
+    (tie.spec Inv-loop μ-loop loop-holds (λ c κs. search needs) (λ c. search needs) (λ c. search needs) put-broken-requires
+    (λ c. same-store (c .before .before .before .before .before .before .before .before))
+    (λ c. same-plaques (c .before .before .before .before .before .before .before .before))
+    (λ c. put-length (c .before .before .put-broken .ensures) ∙ c .before .before .before .before .before .before .before .before .loop
+    .inv .1 .same) returns
+    (λ c. sym (c .before .before .before .before .before .before .loop .inv .0))
+    (λ c κs. let z = c .before .before in (here z, turn z .loop .inv .0)) (λ c. search needs) put-refused-requires
+    (λ c. let h = c .before .before .before .before .before .before .before .before .before .before .before in packet-inside (h .hear
+    .ensures) (here (h .before .before .before)))
+    (λ c. let h = c .before .before .before .before .before .before .before .before .before .before .before .before in packet-long (h .hear
+    .ensures) (here (h .before .before .before))) hub-turn-requires sub-i
+    (λ c. search needs) (λ c. search needs) (λ c. let i = index (c .before) in omega arith) (λ c. search needs)
+    (λ c. index (c .before .before))
+    (λ c. let h = c .before .before .before .before .before .before .before .before .before .before .before .before in packet-inside (h
+    .hear .ensures) (here (h .before .before .before)))
+    (λ c. let h = c .before .before .before .before .before .before .before .before .before .before .before .before .before in packet-long
+    (h .hear .ensures) (here (h .before .before .before))) reader-turn-requires
+    (λ c. search needs) (λ c. let i = index (c .before .before .before .before .before .before .before .before .before .before .before
+    .before .before .before .before .before .before .before) in omega arith) (λ c. search needs)
+    (λ c. index (c .before .before .before .before .before .before .before .before .before .before .before .before .before .before .before
+    .before .before .before)) add-at bytes-requires (λ c. search needs) add-at-2
+    (λ c. search needs) (λ c. let f = c .before .before .before .before .before .before .before .before .before .before .before .before
+    .before .before .before .loop-test .taken in omega arith) loop-again put-broken-requires-2
+    (λ c. same-store (c .before .before .before .before .before .before))
+    (λ c. same-plaques (c .before .before .before .before .before .before))
+    (λ c. put-length (c .before .before .put-broken2 .ensures) ∙ c .before .before .before .before .before .before .loop .inv .1 .same)
+    returns-2
+    (λ c. same-store (c .before .before)) (λ c. same-plaques (c .before .before)) (λ c. search needs) returns-3)
