@@ -1,14 +1,12 @@
 -- A packet judged with its stamp, part by part.
 -- Assumes nothing.
 use Prim.Native.Nat.{ℕ}
-use mathlib.Core.Path.{_≡_, ap, _∙_, refl}
+use mathlib.Core.Path.{_≡_, ap}
 use mathlib.Core.List.{List}
 use Rattle.units.specs.declared.Form.{Form}
 use Rattle.units.specs.declared.stamp.Stamp.{Stamp}
 use Rattle.meaning.specs.Bench.{Bench}
 use Rattle.meaning.specs.Call.{command, judged, commandIn, kindIn}
-use Rattle.meaning.specs.declared.table.Kind.{Kind}
-use Rattle.meaning.specs.declared.packet.Command.{Command}
 use Rattle.command.specs.Judged.{judgedCommand}
 use Rattle.command.specs.declared.Judged.{Judged}
 

@@ -1,25 +1,81 @@
 // The bench console: a call a line on standard input, an answer a line on standard output, until the input ends. Where input or output
 // fails, that is said on standard error, and the console ends.
-use gather::gather;
+use conversation::LONGEST;
+use conversation::speak;
 use libc::STDERR_FILENO;
 use libc::STDIN_FILENO;
+use plaques::copy_bytes;
 use state::State;
 use streams::put;
 use streams::take;
-use talk::talk;
 use units::Bytes;
 use units::Words;
 ghost use mathlib.Core.Path.{_≡_};
-ghost use Prim.Native.Nat.{_≤_};
+ghost use Prim.Native.Nat.{_+_, _*_, _≤_};
 ghost use lib.ListN.{length};
 ghost use Rattle.meaning.specs.Bench.{full};
 ghost use Rattle.state.specs.Machine.{machine};
 ghost use Rattle.state.specs.Consistent.{unfit};
+ghost use Rattle.conversation.specs.Conversation.{longestAnswer};
 
-// The state after a line, and whether its answer could be written.
+// A line that goes on is kept up to a byte more than the longest that is looked into, which shows that it is longer.
+const KEPT: usize = 4401;
+
+// As much is read at a time.
+const PIECE: usize = 2048;
+
+// The state after some lines, and whether their answers could be written.
 struct Answered {
     state: State,
     written: bool,
+}
+
+// Plays the lines, and writes their answers before anything else is waited for.
+fn answer(s: State, lines: &[u8], store: &mut [u16], plaques: &mut [u8], out: &mut [u8]) -> Answered
+    requires { ⌜ unfit full (machine s (now store) (now plaques)) ≡ 0 ⌝ }
+    requires { ⌜ length (now lines) * longestAnswer ≤ length (now out) ⌝ }
+    ensures { λ r. ⌜ unfit full (machine (r .state) (now (store .exit)) (now (plaques .exit))) ≡ 0 ⌝ }
+{
+    let r = speak(s, lines, store, plaques, out);
+    let n = r.at;
+    let written = put(&out[..n]) == n;
+    let state = r.state;
+    Answered { state, written }
+}
+
+// Where the last line that has its line feed ends; 0 where none has.
+fn whole_lines(input: &[u8]) -> usize
+    ensures { λ r. ⌜ r ≤ length (now (input .entry)) ⌝ }
+{
+    let mut n = input.len();
+    while 0 < n {
+        if input[n - 1] == 10 {
+            return n;
+        }
+        n -= 1;
+    }
+    0
+}
+
+// How much is kept of a line that goes on.
+fn kept_of(n: usize) -> usize
+    ensures { λ r. ⌜ (r ≤ n) × (r ≤ 4401) ⌝ }
+{
+    if KEPT < n { KEPT } else { n }
+}
+
+// What stands between two places comes to the front, as much as is kept; how much that is.
+fn keep(input: &mut [u8], from: usize, end: usize) -> usize
+    requires { ⌜ (from ≤ end) × (end ≤ length (now input)) ⌝ }
+    ensures { λ r. ⌜ r ≤ 4401 ⌝ }
+{
+    let n = kept_of(end - from);
+    let mut j: usize = 0;
+    while j < n {
+        input[j] = input[from + j];
+        j += 1;
+    }
+    n
 }
 
 // The state after a piece of the input, how many bytes of a line that goes on are kept, and whether all answers could be written.
@@ -29,63 +85,43 @@ struct Heard {
     written: bool,
 }
 
-// Plays a line, and writes its answer before anything else is waited for.
-fn answer(s: State, line: &[u8], store: &mut [u16], plaques: &mut [u8]) -> Answered
-    requires { ⌜ unfit full (machine s (now store) (now plaques)) ≡ 0 ⌝ }
-    ensures { λ r. ⌜ unfit full (machine (r .state) (now (store .exit)) (now (plaques .exit))) ≡ 0 ⌝ }
-{
-    let mut out = [0u8; 691];
-    let p = talk(s, line, store, plaques, &mut out, 0);
-    let n = p.at;
-    let written = put(&out[..n]) == n;
-    let state = p.state;
-    Answered { state, written }
-}
-
-// Plays the lines that end in a piece, and keeps what it has of the next.
+// A piece comes behind what is kept; all lines that then have their line feed are played, and the rest is kept.
 fn hear(
     s: State,
-    piece: &[u8],
-    line: &mut [u8],
+    input: &mut [u8],
     kept: usize,
+    piece: &[u8],
     store: &mut [u16],
     plaques: &mut [u8],
+    out: &mut [u8],
 ) -> Heard
-    requires { ⌜ kept ≤ length (now line) ⌝ }
     requires { ⌜ unfit full (machine s (now store) (now plaques)) ≡ 0 ⌝ }
-    ensures { λ r. ⌜ r .kept ≤ length (now (line .exit)) ⌝ }
-    ensures { λ r. ⌜ unfit full (machine (r .state) (now (store .exit)) (now (plaques .exit))) ≡ 0 ⌝ }
+    requires { ⌜ (kept + length (now piece) ≤ length (now input)) × (length (now input) * longestAnswer ≤ length (now out)) ⌝ }
+    ensures { λ r. ⌜ (r .kept ≤ 4401) × (unfit full (machine (r .state) (now (store .exit)) (now (plaques .exit))) ≡ 0) ⌝ }
 {
-    let mut t = s;
-    let mut k = kept;
-    let mut at = 0;
-    let mut written = true;
-    while at < piece.len() && written {
-        let g = gather(piece, at, line, k);
-        at = g.at;
-        k = g.kept;
-        if g.whole {
-            let a = answer(t, &line[..k], store, plaques);
-            t = a.state;
-            written = a.written;
-            k = 0;
-        }
-    }
+    copy_bytes(piece, input, kept);
+    let n = kept + piece.len();
+    let whole = whole_lines(&input[..n]);
+    let a = answer(s, &input[..whole], store, plaques, out);
+    let left = keep(input, whole, n);
+    let state = a.state;
     Heard {
-        state: t,
-        kept: k,
-        written,
+        state,
+        kept: left,
+        written: a.written,
     }
 }
 
-// A line is kept up to a byte more than the longest that is looked into, which shows that it is longer.
-fn play() {
+// The lines as they come, into an output that has room for the answers to all of them.
+fn play_into(out: &mut [u8])
+    requires { ⌜ 6449 * longestAnswer ≤ length (now out) ⌝ }
+{
     let mut store = [0u16; Words::STORE.0 as usize];
     let mut plaques = [0u8; Bytes::PLAQUES.0 as usize];
-    let mut line = [0u8; 4401];
-    let mut piece = io::buffer();
+    let mut piece = [0u8; PIECE];
+    let mut input = [0u8; KEPT + PIECE];
     let mut s = state::fresh(&mut store);
-    let mut kept = 0;
+    let mut kept: usize = 0;
     // It ends with the input. (So many pieces no bench will see; the count shows the prover that it ends.)
     let mut pieces: u64 = 0;
     while pieces < u64::MAX {
@@ -98,7 +134,15 @@ fn play() {
         if n == 0 {
             break;
         }
-        let h = hear(s, &piece[..n], &mut line, kept, &mut store, &mut plaques);
+        let h = hear(
+            s,
+            &mut input,
+            kept,
+            &piece[..n],
+            &mut store,
+            &mut plaques,
+            out,
+        );
         if !h.written {
             return;
         }
@@ -107,8 +151,14 @@ fn play() {
         pieces += 1;
     }
     if 0 < kept {
-        answer(s, &line[..kept], &mut store, &mut plaques);
+        answer(s, &input[..kept], &mut store, &mut plaques, out);
     }
+}
+
+// No line of what is looked at in one go has a longer answer, and a line has a byte at least.
+fn play() {
+    let mut out = [0u8; LONGEST * (KEPT + PIECE)];
+    play_into(&mut out);
 }
 
 fn main() {

@@ -1,4 +1,3 @@
 -- Laws that belong to no one function.
-pub mod Answering
 pub mod Conversing
-pub mod Whole
+pub mod Speaking

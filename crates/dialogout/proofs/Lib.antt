@@ -1,2 +1,3 @@
 pub mod Rooms
 pub mod Said
+pub mod Collected

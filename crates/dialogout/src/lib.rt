@@ -1,13 +1,19 @@
 // The lines out of the console. The caller sees to the room.
 use listingout::put_refused;
 use promise::Reply;
+use responseout::bears;
 use text::put;
 use text::put_decimal;
+use text::put_hex;
 use text::put_text;
 use text::put_words;
+use units::Form;
+use units::packing::word;
 ghost use Prim.Native.Nat.{_+_, _≤_};
 ghost use lib.ListN.{length};
 ghost use Rattle.text.specs.Text.{Put};
+ghost use Rattle.meaning.specs.Packet.{overall};
+ghost use Rattle.meaning.specs.Response.{shown};
 ghost use Rattle.promise.specs.Obeyed.{spoken};
 ghost use Rattle.dialog.specs.Dialog.{unreadableLine, collectedLine, saidLine, storeLine};
 
@@ -31,15 +37,27 @@ pub fn put_said(out: &mut [u8], at: usize, reply: Reply) -> usize
     }
 }
 
-// The handover number, and the words of the answer.
-pub fn put_collected(out: &mut [u8], at: usize, number: u16, words: &[u16]) -> usize
-    requires { ⌜ (at + 691 ≤ length (now out)) × (length (now words) ≤ 135) ⌝ }
-    ensures { λ r. ⌜ Put (now (out .entry)) at (collectedLine number (now (words .entry))) (now (out .exit)) r ⌝ }
+// The handover number, and the words of an answer of a node, in a form: with word 00 where the form has it.
+pub fn put_handed(
+    out: &mut [u8],
+    at: usize,
+    number: u16,
+    form: Form,
+    node: u8,
+    words: &[u16],
+) -> usize
+    requires { ⌜ (at + 691 ≤ length (now out)) × (1 ≤ length (now words)) × (length (now words) ≤ overall 255) ⌝ }
+    ensures { λ r. ⌜ Put (now (out .entry)) at (collectedLine number (shown form node (now (words .entry)))) (now (out .exit)) r ⌝ }
 {
-    let to = put_text(out, at, b"collected ");
-    let end = put_decimal(out, to, number as usize);
-    let from = put(out, end, 32);
-    put_words(out, from, words)
+    let from = put_text(out, at, b"collected ");
+    let end = put_decimal(out, from, number as usize);
+    let to = put(out, end, 32);
+    if bears(form, node) {
+        let next = put_hex(out, to, word(0xFF, node));
+        let then = put(out, next, 32);
+        return put_words(out, then, words);
+    }
+    put_words(out, to, words)
 }
 
 // Words of the answer store.

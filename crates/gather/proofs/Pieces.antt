@@ -1,14 +1,14 @@
--- Laws of lines: where one ends, what is left after it, and what is kept of one that comes in pieces.
+-- Laws of lines: where one ends, what is left after it, and one that is cut because it is too long.
 -- Assumes nothing.
 use Prim.Native.Nat.{ℕ, zero, suc, _+_, _-_, _≤_, _<_}
 use mathlib.Core.Path.{_≡_, refl, sym, ap, _∙_}
-use mathlib.Core.Bool.{Bool, true, false, true≢false}
-use mathlib.Core.List.{List, [], _∷_, _++_}
+use mathlib.Core.Bool.{true, false, true≢false}
+use mathlib.Core.List.{List, [], _∷_}
 use native.Mathlib.Omega.{arith}
-use native.Mathlib.Numerals.{add-one, unary-clauses}
+use native.Mathlib.Numerals.{add-one}
 use native.Mathlib.Decide.{decLt, ℕ-discrete}
-use lib.ListN.{length, getD, take, drop, set, length-append, length-take, length-drop, length-set, drop-of-length-le}
-use lib.Seq.{sets, sets-eq, length-sets, take-all, take-at, take-nil, drop-drop, getD-drop}
+use lib.ListN.{length, getD, take, drop, length-take, length-drop, drop-of-length-le}
+use lib.Seq.{take-all, drop-drop, getD-drop}
 use borrow.Author.Tests.{eq-eqb, ne-eqb}
 use Rattle.units.proofs.Choice.{yes-cond, no-cond}
 use Rattle.dialog.specs.Fields.{before}
@@ -16,8 +16,7 @@ use Rattle.dialog.specs.Spoken.{spoken}
 use Rattle.dialog.specs.Dialog.{linesOf}
 use Rattle.dialog.proofs.FieldLaws.{next}
 use Rattle.dialog.proofs.SpokenLaws.{too-long}
-use Rattle.gather.specs.Pieces.{lineIn, fed, Gathers, Holds}
-use Rattle.gather.specs.declared.Gathered.{Gathered}
+use Rattle.gather.specs.Pieces.{lineIn, fed}
 
 -- ---- a byte more
 line-feed : (c : ℕ) (cs : List ℕ) → c ≡ 10 → lineIn (c ∷ cs) ≡ []
@@ -157,103 +156,6 @@ module _ (bs : List ℕ) (at k : ℕ) (h : at + k < length bs) where
 
   pub block-same : (getD bs (at + k) 0 ≡ 10 → ⊥) → fed (take (k + 1) (drop at bs)) ≡ fed (take k (drop at bs))
   block-same d = rw (add-one k) (fed-still (drop at bs) k (omega (arith, length-drop at bs)) (λ e. d (sym (getD-drop at bs k 0) ∙ e)))
-
--- ---- a piece gathered
-module _ (piece : List ℕ) (at : ℕ) (line : List ℕ) (k : ℕ) where
-  -- nothing is left of the piece
-  pub none-left : length piece ≤ at → Gathers piece at line k (record { at = at; kept = k; whole = false }) line
-  unfolding fed
-  none-left h =
-      let e = at-end piece at h in record {
-        whole = sym (ap fed (drop-of-length-le piece {i = at} h));
-        at = omega (arith, ap length e);
-        kept′ = omega (arith, ap length e);
-        bytes = sym (rw e (ap (sets line k) (take-nil (length line - k))));
-      }
-
-  -- the line feed
-  pub feed-next : at < length piece → getD piece at 0 ≡ 10 → Gathers piece at line k (record { at = at + 1; kept = k; whole = true }) line
-  feed-next h f =
-      let e = at-feed piece at h f in record {
-        whole = sym (ap fed (next piece at 0 h) ∙ fed-feed _ _ f);
-        at = omega (arith, ap length e);
-        kept′ = omega (arith, ap length e);
-        bytes = sym (rw e (ap (sets line k) (take-nil (length line - k))));
-      }
-
-  module _ (r : Gathered) (line′ : List ℕ) (h : at < length piece) (d : getD piece at 0 ≡ 10 → ⊥) where
-    -- a byte with room for it
-    pub byte-kept : k < length line → Gathers piece (at + 1) (set line k (getD piece at 0)) (k + 1) r line′ → Gathers piece at line k r line′
-    byte-kept g q =
-        let e = at-other piece at h d in
-        let n : length line - k ≡ suc (length line - (k + 1)) = omega arith in record {
-          whole = q .whole ∙ sym (ap fed (next piece at 0 h) ∙ fed-more _ _ d);
-          at = omega (arith, ap length e, q .at);
-          kept′ = omega (arith, ap length e, q .kept′, length-set line k (getD piece at 0));
-          bytes = q .bytes ∙ rw (length-set line k (getD piece at 0), e, n, add-one k);
-        }
-
-    -- and without
-    pub byte-past : length line ≤ k → Gathers piece (at + 1) line k r line′ → Gathers piece at line k r line′
-    byte-past g q =
-        let e = at-other piece at h d in
-        let n : length line - k ≡ 0 = omega arith in record {
-          whole = q .whole ∙ sym (ap fed (next piece at 0 h) ∙ fed-more _ _ d);
-          at = omega (arith, ap length e, q .at);
-          kept′ = omega (arith, ap length e, q .kept′);
-          bytes = q .bytes ∙ rw n;
-        }
-
--- ---- for callers: what a piece that was gathered says
-module _ {piece line line′ : List ℕ} {from kept : ℕ} {r : Gathered} where
-  at-whole : Gathers piece from line kept r line′ → r .whole ≡ true → r .at ≡ from + length (lineIn (drop from piece)) + 1
-  at-whole q e = q .at ∙ ap (λ (n : ℕ). from + length (lineIn (drop from piece)) + n) (yes-cond 0 e)
-
-  at-part : Gathers piece from line kept r line′ → r .whole ≡ false → r .at ≡ from + length (lineIn (drop from piece)) + 0
-  at-part q e = q .at ∙ ap (λ (n : ℕ). from + length (lineIn (drop from piece)) + n) (no-cond 1 e)
-
-  -- it has the length it had, and no more is kept than it has room for
-  pub same-room : Gathers piece from line kept r line′ → length line′ ≡ length line
-  same-room q = ap length (q .bytes) ∙ length-sets line kept (take (length line - kept) (lineIn (drop from piece)))
-
-  pub kept-within : Gathers piece from line kept r line′ → kept ≤ length line → r .kept ≤ length line
-  kept-within q h = omega (arith, q .kept′)
-
-  -- the place is further on, and no further than the piece
-  pub on-further : Gathers piece from line kept r line′ → from < length piece → from < r .at
-  on-further q h = by (r .whole) refl where
-    by : (w : Bool) → r .whole ≡ w → from < r .at
-    by true e = omega (arith, at-whole q e)
-    by false e = omega (arith, at-part q e, ap length (line-all (drop from piece) (sym (q .whole) ∙ e)), length-drop from piece)
-
-  pub on-within : Gathers piece from line kept r line′ → from ≤ length piece → r .at ≤ length piece
-  on-within q h = by (r .whole) refl where
-    by : (w : Bool) → r .whole ≡ w → r .at ≤ length piece
-    by true e = omega (arith, at-whole q e, line-less (drop from piece) (sym (q .whole) ∙ e), length-drop from piece)
-    by false e = omega (arith, at-part q e, line-within piece from h)
-
--- ---- what is kept of a line so far
-pub holds-none : (line : List ℕ) → Holds line 0 []
-holds-none line = record { first = sym (take-nil (length line)); count = sym (ap length (take-nil {A = ℕ} (length line))) }
-
--- so many bytes of two texts
-take-two : (n : ℕ) (xs ys : List ℕ) → take n (xs ++ ys) ≡ take n xs ++ take (n - length xs) ys
-take-two n [] ys = let z : n - 0 ≡ n = omega arith in rw (take-nil {A = ℕ} n, z)
-take-two zero (x ∷ xs) ys = let z : 0 - length (x ∷ xs) ≡ 0 = omega arith in rw z
-take-two (suc n) (x ∷ xs) ys = simp unary-clauses (ap (λ (l : List ℕ). x ∷ l) (take-two n xs ys))
-
-pub gathered-on : {piece line line′ sofar : List ℕ} {from kept : ℕ} {r : Gathered} → Gathers piece from line kept r line′ → Holds line kept sofar
-    → Holds line′ (r .kept) (sofar ++ lineIn (drop from piece))
-gathered-on {piece} {line} {line′} {sofar} {from} {kept} {r} q p =
-    let l = lineIn (drop from piece) in
-    let new = take (length line - kept) l in
-    let k = length-take (length line) sofar in
-    let t : r .kept ≡ kept + length new = omega (arith, q .kept′, length-take (length line - kept) l) in
-    let same : length line - length sofar ≡ length line - kept = omega (arith, p .count) in
-    let a : line′ ≡ take kept line ++ new ++ drop (kept + length new) line = q .bytes ∙ sets-eq new line kept (omega (arith, p .count, length-take (length line - kept) l)) in
-    let whole : take (length line′) (sofar ++ l) ≡ take kept line ++ new = rw (same-room q, take-two (length line) sofar l, same, p .first) in
-    let m : length (take kept line ++ new) ≡ r .kept = length-append (take kept line) new ∙ omega (arith, ap length (p .first), p .count) in
-    record { first = ap (take (r .kept)) a ∙ take-at (take kept line ++ new) _ (r .kept) m ∙ sym whole; count = sym (ap length whole ∙ m) }
 
 -- a line that is cut where it is too long anyway says what the whole says
 pub cut : (n : ℕ) (l : List ℕ) → 4401 ≤ n → spoken (take n l) ≡ spoken l

@@ -1,46 +1,11 @@
-// Lines found in the input. It comes in pieces: a line may come in several, and a piece may have several lines.
+// Lines found in the input: where one ends, and how many there are.
 ghost use mathlib.Core.Path.{_≡_};
 ghost use mathlib.Core.List.{filter};
 ghost use Prim.Native.Nat.{_+_, _≤_};
 ghost use native.Mathlib.Decide.{ℕ-discrete};
 ghost use lib.ListN.{length, take, drop};
 ghost use Rattle.dialog.specs.Dialog.{linesOf};
-ghost use Rattle.gather.specs.Pieces.{lineIn, fed, Gathers};
-
-// Where the next line begins in the piece, how many bytes of this one are kept, and whether it has its line feed.
-pub struct Gathered {
-    pub at: usize,
-    pub kept: usize,
-    pub whole: bool,
-}
-
-// Adds to the first bytes of a line what a piece has of it, from a place on. What is past the room of the line is left out.
-pub fn gather(piece: &[u8], from: usize, line: &mut [u8], kept: usize) -> Gathered
-    ensures { λ r. ⌜ Gathers (now (piece .entry)) from (now (line .entry)) kept r (now (line .exit)) ⌝ }
-{
-    let mut at = from;
-    let mut k = kept;
-    while at < piece.len() {
-        let c = piece[at];
-        at += 1;
-        if c == 10 {
-            return Gathered {
-                at,
-                kept: k,
-                whole: true,
-            };
-        }
-        if k < line.len() {
-            line[k] = c;
-            k += 1;
-        }
-    }
-    Gathered {
-        at,
-        kept: k,
-        whole: false,
-    }
-}
+ghost use Rattle.gather.specs.Pieces.{lineIn, fed};
 
 // Whether 16 bytes have a line feed. Each is looked at: a loop that left at the first would not become vector code.
 fn any_feed(bytes: &[u8], at: usize) -> bool

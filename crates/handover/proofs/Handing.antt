@@ -1,4 +1,4 @@
--- The oldest answer, where it stands and taken away: on any machine whose parts were given.
+-- The oldest answer of a list, and an acknowledgement of it: on any machine whose parts were given.
 -- Assumes nothing.
 use Prim.Native.Nat.{ℕ, _<_}
 use mathlib.Core.Path.{_≡_, refl, sym, ap, _∙_, subst}
@@ -6,10 +6,12 @@ use mathlib.Core.Bool.{true}
 use mathlib.Core.List.{List, _∷_}
 use native.Mathlib.Omega.{arith}
 use lib.ListN.{getD, set}
+use lib.Seq.{set-getD}
 use Rattle.units.specs.declared.Words.{Words}
 use Rattle.meaning.specs.Bench.{full, isNode}
 use Rattle.meaning.specs.Gateway.{setNode, taken}
-use Rattle.state.specs.State.{takenNode}
+use Rattle.meaning.specs.Call.{acknowledge, Said, refused, answered, done, step}
+use Rattle.state.specs.State.{freshNode, takenNode}
 use Rattle.state.specs.Machine.{Machine, machine, meaning, nodeSlot}
 use Rattle.state.specs.Consistent.{counts, unfit}
 use Rattle.state.specs.declared.node.Node.{Node}
@@ -18,11 +20,12 @@ use Rattle.state.proofs.Read.{blank, node-any}
 use Rattle.lists.specs.Room.{placeOf}
 use Rattle.store.specs.Changes.{withLists}
 use Rattle.store.specs.Swept.{Takeable, Takes}
+use Rattle.promise.specs.Obeyed.{Does, Obeyed}
 use Rattle.promise.proofs.Parts.{parts, Means}
 use Rattle.promise.proofs.Tables.{node-inside}
-use Rattle.promise.proofs.Oldest.{oldest, oldest-first, taken-changed}
+use Rattle.promise.proofs.Oldest.{oldest, oldest-first, taken-changed, acked-14, acked-15, acked-0}
 use Rattle.handover.specs.Handed.{Slot}
-use Rattle.handover.proofs.Served.{Found, Stands, stands, takeable, taken-listed}
+use Rattle.handover.proofs.Served.{Found, Stands, stands, takeable, taken-listed, by-fit}
 
 module _ {i : ℕ} {own : Node} {held : List Words} (s : State) (store memory : List ℕ) (fit : unfit full (machine s store memory) ≡ 0)
     (n : ℕ) (is : isNode full n ≡ true) (at : nodeSlot full n ≡ i) (a : Slot i own held s) (some : 0 < own .answers) where
@@ -48,13 +51,13 @@ module _ {i : ℕ} {own : Node} {held : List Words} (s : State) (store memory : 
   pub lies : (place : ℕ) → place ≡ placeOf (counts held) i → Stands m place first
   lies place e = stands m fit n i here waits place (e ∙ ap (λ (l : List Words). placeOf (counts l) i) (sym (a .helds)))
 
+  pub slot-takeable : Takeable full held i store
+  slot-takeable = subst (λ (l : List Words). Takeable full l i store) (a .helds) (takeable m fit n i here waits)
+
   pub first-is : (ws : List (List ℕ)) × (meaning full m .nodes n .pending ≡ first ∷ ws)
   first-is = oldest-first full m fit n i (here .is) (here .slot) (getD (s .nodes) i blank) (here .at) waits
 
   -- taken away
-  pub slot-takeable : Takeable full held i store
-  slot-takeable = subst (λ (l : List Words). Takeable full l i store) (a .helds) (takeable m fit n i here waits)
-
   pub slot-taken : {store′ : List ℕ} {hs : List Words} {x : Node} → Takes full held i store store′ hs → x ≡ takenNode own
       → Means full (machine (withLists s (set (s .nodes) i x) hs) store′ memory)
       (setNode n (taken (meaning full m .nodes n)) (meaning full m))
@@ -63,3 +66,40 @@ module _ {i : ℕ} {own : Node} {held : List Words} (s : State) (store memory : 
       let u : Takes full (s .held) i store store′ hs = subst (λ (h : List Words). Takes full h i store store′ hs) (sym (a .helds)) t in
       taken-changed full m fit n i (here .is) (here .slot) (getD (s .nodes) i blank) (here .at) waits store′ _
       (taken-listed m fit n i here waits u z)
+
+-- ---- the parts put back as they were
+pub slot-back : {i : ℕ} {own : Node} {held : List Words} (s : State) → Slot i own held s → withLists s (set (s .nodes) i own) held ≡ s
+slot-back {i} {own} {held} s a =
+    ap (λ (l : List Node). withLists s l held) (ap (set (s .nodes) i) (sym (a .node)) ∙ set-getD (s .nodes) i freshNode)
+    ∙ ap (withLists s (s .nodes)) (sym (a .helds))
+
+-- ---- an acknowledgement there, by what it returns
+module _ {i : ℕ} {own : Node} {held : List Words} (s : State) (store memory : List ℕ) (fit : unfit full (machine s store memory) ≡ 0)
+    (n : ℕ) (is : isNode full n ≡ true) (at : nodeSlot full n ≡ i) (a : Slot i own held s) (number : ℕ) where
+  abbrev Acked : Said → State → List ℕ → Type 0
+  Acked said s′ store′ =
+      Does full (step full (meaning full (machine s store memory)) (acknowledge n number)) (machine s store memory) said
+      (machine s′ store′ memory)
+
+  refusing : (k : ℕ) → Obeyed full (acknowledge n number) (machine s store memory) (refused k) (machine s store memory)
+      → Acked (refused k) (withLists s (set (s .nodes) i own) held) store
+  refusing k d =
+      subst (λ (t : State). Acked (refused k) t store) (sym (slot-back s a))
+      (by-fit full (machine s store memory) fit (acknowledge n number) (refused k) _ d)
+
+  pub acks-14 : own .answers ≡ 0 → Acked (refused 14) (withLists s (set (s .nodes) i own) held) store
+  acks-14 e = refusing 14 (acked-14 full (machine s store memory) fit n number i is at own (a .node) e)
+
+  module _ (some : 0 < own .answers) where
+    pub acks-15 : (number ≡ own .handover → ⊥) → Acked (refused 15) (withLists s (set (s .nodes) i own) held) store
+    acks-15 d = refusing 15 (acked-15 full (machine s store memory) fit n number i is at own (a .node) some d)
+
+    pub acks-0 : number ≡ own .handover → {store′ : List ℕ} {hs : List Words} {x : Node} → Takes full held i store store′ hs
+        → x ≡ takenNode own
+        → Acked (answered done) (withLists s (set (s .nodes) i x) hs) store′
+    acks-0 e {store′} {hs} t y =
+        let u : Takes full (s .held) i store store′ hs = subst (λ (h : List Words). Takes full h i store store′ hs) (sym (a .helds)) t in
+        by-fit full (machine s store memory) fit (acknowledge n number) (answered done) _
+        (acked-0 full (machine s store memory) fit n number i is at own (a .node) some e _ _
+        (taken-listed (machine s store memory) fit n i (here s store memory fit n is at a some) (waits s store memory fit n is at a some) u
+        (y ∙ ap takenNode (sym (own-is s store memory fit n is at a some)))))

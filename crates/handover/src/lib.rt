@@ -8,6 +8,7 @@ use promise::Handout;
 use promise::Reply;
 use responseout::bears;
 use state::State;
+use state::node::Node;
 use store::take;
 use units::Form;
 use units::Words;
@@ -21,6 +22,7 @@ ghost use Rattle.state.specs.Machine.{machine, meaning};
 ghost use Rattle.state.specs.Consistent.{unfit};
 ghost use Rattle.moves.specs.Moved.{putIn};
 ghost use Rattle.promise.specs.Obeyed.{Makes, Collects};
+ghost use Rattle.handover.specs.Handed.{Listable, Acknowledges};
 
 pub fn acknowledge(s: State, node: u8, number: u16, store: &mut [u16], plaques: &[u8]) -> Called
     requires { ⌜ unfit full (machine s (now store) (now plaques)) ≡ 0 ⌝ }
@@ -94,4 +96,44 @@ pub fn collect(
     }
     copy_answer(store, place, out, 0);
     Handout::Handed(Words(words), n.handover)
+}
+
+// A node and the words that all nodes hold, after a call for its list; and what is said.
+pub struct Listed {
+    pub node: Node,
+    pub held: [Words; 17],
+    pub reply: Reply,
+}
+
+// An acknowledgement at the list of the node at index i.
+pub fn acknowledged(
+    i: usize,
+    own: Node,
+    held: [Words; 17],
+    number: u16,
+    store: &mut [u16],
+) -> Listed
+    requires { ⌜ Listable full i own held (now store) ⌝ }
+    ensures { λ r. ⌜ Acknowledges full number i own held (now (store .entry)) r (now (store .exit)) ⌝ }
+{
+    if own.answers == 0 {
+        return Listed {
+            node: own,
+            held,
+            reply: Reply::Refused(14),
+        };
+    }
+    if number != own.handover {
+        return Listed {
+            node: own,
+            held,
+            reply: Reply::Refused(15),
+        };
+    }
+    let less = take(held, i, store);
+    Listed {
+        node: own.taken(),
+        held: less,
+        reply: Reply::Done,
+    }
 }

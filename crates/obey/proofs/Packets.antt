@@ -27,7 +27,7 @@ use Rattle.meaning.specs.declared.packet.CommandRead.the-variants as C
 use Rattle.meaning.proofs.Chain.{accepts, fine}
 use Rattle.meaning.proofs.CommandLaws.{read-is, data-length}
 use Rattle.demands.specs.Sound.{Sound}
-use Rattle.state.specs.Machine.{Machine, meaning}
+use Rattle.state.specs.Machine.{Machine}
 use Rattle.state.specs.Consistent.{unfit}
 use Rattle.answers.specs.Ordered.{loadOf, Ready, ordered, heeding}
 use Rattle.promise.specs.Obeyed.{Does}

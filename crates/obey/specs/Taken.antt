@@ -2,20 +2,16 @@
 -- Assumes nothing.
 use Prim.Native.Nat.{ℕ}
 use mathlib.Core.Path.{_≡_}
-use mathlib.Core.Bool.{true, cond}
+use mathlib.Core.Bool.{true}
 use mathlib.Core.List.{List}
-use lib.Dec.{eqb}
 use Rattle.units.specs.Stamp.{isStamp}
 use Rattle.units.specs.declared.stamp.Stamp.{Stamp}
-use Rattle.meaning.specs.Bench.{Bench, hub, isReader, isNode}
-use Rattle.meaning.specs.Gateway.{Gateway}
-use Rattle.meaning.specs.Table.{rowOf}
-use Rattle.meaning.specs.Call.{Outcome}
+use Rattle.meaning.specs.Bench.{Bench, isReader}
 use Rattle.meaning.specs.declared.table.Kind.{Kind}
 use Rattle.meaning.specs.declared.packet.Command.{Command}
 use Rattle.state.specs.Machine.{Machine}
 use Rattle.state.specs.Consistent.{unfit}
-use Rattle.answers.specs.Ordered.{Ready, ordered, heeding}
+use Rattle.answers.specs.Ordered.{Ready}
 use Rattle.desk.specs.Ruled.{ToldOf}
 
 -- ---- what an accepted command brings, on a consistent machine

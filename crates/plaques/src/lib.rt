@@ -3,17 +3,24 @@ use answers::refused;
 use answers::slots::reader_slot;
 use promise::Called;
 use promise::Reply;
+use settle::Seated;
 use state::State;
+use state::node::Node;
+use state::reader::Reader;
 use units::Bytes;
+use units::Words;
 ghost use mathlib.Core.Path.{_≡_};
-ghost use Prim.Native.Nat.{_+_, _≤_};
+ghost use mathlib.Core.Bool.{true};
+ghost use mathlib.Core.List.{List};
+ghost use Prim.Native.Nat.{ℕ, _+_, _*_, _≤_};
 ghost use lib.ListN.{length};
 ghost use lib.Seq.{paste};
-ghost use Rattle.meaning.specs.Bench.{full};
-ghost use Rattle.meaning.specs.Call.{leave, arrive, step};
+ghost use Rattle.meaning.specs.Bench.{full, isReader};
+ghost use Rattle.meaning.specs.Call.{leave, arrive, judged, step};
 ghost use Rattle.state.specs.Machine.{machine, meaning};
 ghost use Rattle.state.specs.Consistent.{unfit};
 ghost use Rattle.promise.specs.Obeyed.{Makes};
+ghost use Rattle.settle.specs.Settled.{Seats};
 
 // Copies all of src into dst from a place on.
 pub fn copy_bytes(src: &[u8], dst: &mut [u8], to: usize)
@@ -40,6 +47,54 @@ fn eight(id: &[u8]) -> [u8; Bytes::ID.0 as usize]
         j += 1;
     }
     a
+}
+
+// A plaque leaves, on the parts of its reader.
+pub fn left(own: Node, x: Reader, held: [Words; 17]) -> Seated
+    ensures { λ r. ⌜ ((n : ℕ) (store memory : List ℕ) → isReader full n ≡ true
+        → Seats full (λ g. step full g (leave n)) n own x held store memory r store memory) ⌝ }
+{
+    let plaque = x.plaque;
+    if !plaque.present {
+        return Seated {
+            node: own,
+            held,
+            reader: x,
+            reply: Reply::Refused(14),
+        };
+    }
+    let y = x.left();
+    Seated {
+        node: own,
+        held,
+        reader: y,
+        reply: Reply::Done,
+    }
+}
+
+// A plaque that is within its limits arrives, on the parts of its reader.
+pub fn brought(
+    node: u8,
+    own: Node,
+    x: Reader,
+    held: [Words; 17],
+    id: &[u8],
+    bytes: &[u8],
+    plaques: &mut [u8],
+) -> Seated
+    requires { ⌜ (judged full (arrive node (now id) (now bytes)) ≡ 0) × (length (now plaques) ≡ full .readers * full .region) ⌝ }
+    ensures { λ r. ⌜ ((store : List ℕ) → Seats full (λ g. step full g (arrive node (now (id .entry)) (now (bytes .entry)))) node own x held store
+        (now (plaques .entry)) r store (now (plaques .exit))) ⌝ }
+{
+    let i = (node - 1) as usize;
+    let y = x.arrived(eight(id), Bytes(bytes.len() as u16));
+    copy_bytes(bytes, plaques, i * Bytes::REGION.0 as usize);
+    Seated {
+        node: own,
+        held,
+        reader: y,
+        reply: Reply::Done,
+    }
 }
 
 pub fn leave(s: State, node: u8, store: &[u16], plaques: &[u8]) -> Called

@@ -1,119 +1,117 @@
--- An answer collected: a refusal is said, or the words and the handover number; the gateway stays as it is.
+-- An answer collected at its list: that there is none is said, or its words and the handover number; the gateway stays as it is.
 -- Assumes nothing.
-use Prim.Native.Nat.{ℕ, _≤_}
+use Prim.Native.Nat.{ℕ, _+_, _-_, _^_, _≤_, _<_}
 use mathlib.Core.Path.{_≡_, refl, sym, ap, _∙_, subst}
 use mathlib.Core.Bool.{Bool, true, false}
-use mathlib.Core.List.{List, [], _∷_}
+use mathlib.Core.List.{List}
 use native.Mathlib.Omega.{arith}
-use lib.Dec.{leb}
-use lib.ListN.{length, take, drop, length-append, length-drop}
-use lib.Seq.{take-at}
+use lib.ListN.{length, getD, take, drop, set}
+use borrow.Author.Tests.{le-leb}
 use Rattle.units.specs.declared.Form.{Form}
 use Rattle.units.specs.declared.Words.{Words}
-use Rattle.meaning.specs.Bench.{Bench, isNode}
-use Rattle.meaning.specs.Gateway.{Gateway}
-use Rattle.meaning.specs.Response.{shown}
-use Rattle.meaning.specs.Call.{collect, done, quiet, handed, Said, refused, answered, queued, Outcome, step}
-use Rattle.state.specs.Machine.{Machine, meaning}
-use Rattle.state.specs.Consistent.{unfit}
-use Rattle.promise.specs.Obeyed.{turned, Does, replied, written, Collects}
-use Rattle.promise.specs.declared.Handout.{Handout}
-use Rattle.promise.proofs.Promises.{saying, does-refused, does-said}
-use Rattle.promise.proofs.Steps.{collect-7, collect-14, collect-16, collect-0}
-use Rattle.talk.proofs.Talking.{expects}
+use Rattle.meaning.specs.Bench.{Bench, full, isNode}
+use Rattle.meaning.specs.Response.{bears, shown}
+use Rattle.meaning.specs.Call.{collect, acknowledge, handed, Said, refused, answered, Outcome, step}
+use Rattle.state.specs.Machine.{Machine, machine, meaning, nodeSlot}
+use Rattle.state.specs.Consistent.{counts, unfit}
+use Rattle.state.specs.declared.node.Node.{Node}
+use Rattle.state.specs.declared.State.{State}
+use Rattle.state.proofs.Read.{blank}
+use Rattle.lists.specs.Room.{placeOf}
+use Rattle.store.specs.Changes.{withLists}
+use Rattle.promise.specs.Obeyed.{Does}
+use Rattle.promise.proofs.Promises.{saying}
+use Rattle.promise.proofs.Steps.{collect-14, collect-0, collect-keeps}
+use Rattle.promise.proofs.Oldest.{oldest-first, handover-is, pending-none, shown-headed, shown-bare}
+use Rattle.handover.specs.Handed.{Slot}
+use Rattle.handover.proofs.Handing.{here, waits, first, lies, slot-back}
+use Rattle.text.specs.Text.{Put}
+use Rattle.text.proofs.Writing.{put-as}
+use Rattle.listing.specs.Lines.{refusedLine}
+use Rattle.listingout.proofs.Rooms.{refused-short}
+use Rattle.dialog.specs.Dialog.{collectedLine, saidLine}
+use Rattle.dialogout.proofs.Rooms.{collected-short}
+use Rattle.talk.specs.declared.aim.Want.{Want}
+use Rattle.talk.specs.Aim.{wanted, Tells}
 
--- ---- what the meaning makes of it
-module _ (b : Bench) (g : Gateway) (f : Form) (n room : ℕ) where
-  pub collect-cases : (Q : Outcome → Type 0) → ((k : ℕ) → Q (saying (refused k) g)) → ((ws : List ℕ) (h : ℕ) → Q (saying (answered (handed ws h)) g))
-      → Q (step b g (collect f n room))
-  collect-cases Q turns gives = go (isNode b n) refl
-    where
-      by : {o : Outcome} → step b g (collect f n room) ≡ o → Q o → Q (step b g (collect f n room))
-      by e q = subst Q (sym e) q
+-- ---- the machine stays, as the meaning asks, and what is said was written
+tells : (b : Bench) (m : Machine) → unfit b m ≡ 0 → (f : Form) (n : ℕ) (s : Said) {old new : List ℕ} {to r : ℕ}
+    → step b (meaning b m) (collect f n 135) ≡ saying s (meaning b m) → Put old to (saidLine s) new r → length (saidLine s) ≤ 691
+    → Tells b (collect f n 135) m old to new r m
+tells b m fits f n s e p l = record {
+  does = record {
+    says = refl;
+    refusal = λ _. refl;
+    sound = λ _. fits;
+    means = λ _. sym (collect-keeps b (meaning b m) f n 135);
+  };
+  wrote = put-as (sym (ap (λ (o : Outcome). saidLine (o .said)) e)) p;
+  room = omega (arith, p .next, l);
+}
 
-      long : isNode b n ≡ true → (w : List ℕ) (ws : List (List ℕ)) → g .nodes n .pending ≡ w ∷ ws → (t : Bool)
-          → leb (length (shown f n w)) room ≡ t → Q (step b g (collect f n room))
-      long p w ws e true d = by (collect-0 b g f n room p w ws e d) (gives _ _)
-      long p w ws e false d = by (collect-16 b g f n room p w ws e d) (turns 16)
+-- an answer has at most 135 words, word 00 counted
+pub shown-few : (f : Form) (n : ℕ) (w : List ℕ) → length w ≤ 134 → length (shown f n w) ≤ 135
+shown-few f n w h = go (bears f n) refl
+  where
+    go : (t : Bool) → bears f n ≡ t → length (shown f n w) ≤ 135
+    go true e = omega (arith, ap length (shown-headed f n w e), h)
+    go false e = omega (arith, ap length (shown-bare f n w e), h)
 
-      list : isNode b n ≡ true → (l : List (List ℕ)) → g .nodes n .pending ≡ l → Q (step b g (collect f n room))
-      list p [] e = by (collect-14 b g f n room p e) (turns 14)
-      list p (w ∷ ws) e = long p w ws e (leb (length (shown f n w)) room) refl
+module _ {i : ℕ} {own : Node} {held : List Words} (s : State) (store memory : List ℕ) (fit : unfit full (machine s store memory) ≡ 0)
+    (n : ℕ) (is : isNode full n ≡ true) (at : nodeSlot full n ≡ i) (a : Slot i own held s) (f : Form) where
+  abbrev m : Machine
+  m = machine s store memory
 
-      go : (t : Bool) → isNode b n ≡ t → Q (step b g (collect f n room))
-      go true p = list p (g .nodes n .pending) refl
-      go false p = by (collect-7 b g f n room p) (turns 7)
+  module _ {old new : List ℕ} {to r : ℕ} where
+    pub shows-none : own .answers ≡ 0 → Put old to (refusedLine 14) new r → Tells full (collect f n 135) m old to new r m
+    unfolding saidLine
+    shows-none e p =
+        tells full m fit f n (refused 14)
+        (collect-14 full (meaning full m) f n 135 is (pending-none full m fit n i is at own (a .node) e)) p
+        (omega (arith, refused-short 14 (omega arith)))
 
--- ---- from what the code hands back to what is said
-Hands : Said → Type 0
-Hands (refused k) = Unit
-Hands (answered done) = ⊥
-Hands (answered quiet) = ⊥
-Hands (answered (handed ws h)) = Unit
-Hands queued = ⊥
+    -- the words stand at the node's place, as the code lends them
+    pub shows-oldest : 0 < own .answers → own .handover < 10 ^ 5 → (place : ℕ) → place ≡ placeOf (counts held) i
+        → Put old to (collectedLine (own .handover) (shown f n (take (place + getD store place 0 - place) (drop place store)))) new r
+        → Tells full (collect f n 135) m old to new r m
+    unfolding saidLine
+    shows-oldest some short place e p =
+        let h = here s store memory fit n is at a some in
+        let o = oldest-first full m fit n i (h .is) (h .slot) (getD (s .nodes) i blank) (h .at) (waits s store memory fit n is at a some) in
+        let w : List ℕ = first s store memory fit n is at a some in
+        let l = lies s store memory fit n is at a some place e in
+        let few : length (shown f n w) ≤ 135 = shown-few f n w (omega (arith, l .most)) in
+        let k : place + getD store place 0 - place ≡ getD store place 0 = omega arith in
+        let v : take (place + getD store place 0 - place) (drop place store) ≡ w = ap (λ (j : ℕ). take j (drop place store)) k ∙ l .words in
+        tells full m fit f n (answered (handed (shown f n w) (own .handover)))
+        (collect-0 full (meaning full m) f n 135 is w (o .0) (o .1) (le-leb _ _ few)
+        ∙ ap (λ (u : ℕ). saying (answered (handed (shown f n w) u)) (meaning full m)) (handover-is full m fit n i is at own (a .node)))
+        (put-as (ap (λ (ws : List ℕ). collectedLine (own .handover) (shown f n ws)) v) p)
+        (collected-short (own .handover) (shown f n w) short few)
 
-refused-back : (s : Said) → Hands s → (k : ℕ) → replied s ≡ Handout.Refused k → s ≡ refused k
-unfolding Hands replied
-refused-back (refused j) p k e = cc
-refused-back (answered done) p k e = absurd p
-refused-back (answered quiet) p k e = absurd p
-refused-back (answered (handed ws h)) p k e = absurd (let z : _≡_ {A = ℕ} 0 1 = cc in omega arith)
-refused-back queued p k e = absurd p
+-- ---- as `at_list` hands the parts back
+module _ {i : ℕ} {own : Node} {held : List Words} (s : State) (store memory : List ℕ) (n : ℕ) (a : Slot i own held s) where
+  abbrev lent : Machine
+  lent = machine s store memory
 
-handed-back : (s : Said) (count : Words) (h : ℕ) → replied s ≡ Handout.Handed count h → (ws : List ℕ) × ((s ≡ answered (handed ws h)) × (count .0 ≡ length ws))
-unfolding replied
-handed-back (refused k) count h e = absurd (let z : _≡_ {A = ℕ} 0 1 = cc in omega arith)
-handed-back (answered done) count h e = absurd (let z : _≡_ {A = ℕ} 0 1 = cc in omega arith)
-handed-back (answered quiet) count h e = absurd (let z : _≡_ {A = ℕ} 0 1 = cc in omega arith)
-handed-back (answered (handed ws j)) count h e = (ws, (cc, cc))
-handed-back queued count h e = absurd (let z : _≡_ {A = ℕ} 0 1 = cc in omega arith)
+  abbrev back : Machine
+  back = machine (withLists s (set (s .nodes) i own) held) store memory
 
--- ---- on a machine that is consistent
-module _ (b : Bench) (m : Machine) (fits : unfit b m ≡ 0) (f : Form) (n : ℕ) where
-  abbrev said : ℕ → Said
-  said room = (step b (meaning b m) (collect f n room)) .said
+  module _ {w : Want} {old new : List ℕ} {to r : ℕ} where
+    pub listed-kept : {f : Form} → w ≡ Want.Collect f → Tells full (collect f n 135) lent old to new r lent
+        → Tells full (wanted n w) lent old to new r back
+    unfolding wanted
+    listed-kept {f} e t =
+        subst (λ (w : Want). Tells full (wanted n w) lent old to new r back) (sym e)
+        (subst (λ (u : State). Tells full (collect f n 135) lent old to new r (machine u store memory)) (sym (slot-back s a)) t)
 
-  -- the machine stays, as the meaning asks
-  pub collect-does : (room : ℕ) → Does b (step b (meaning b m) (collect f n room)) m (said room) m
-  unfolding turned
-  collect-does room =
-      collect-cases b (meaning b m) f n room (λ o. Does b o m (o .said) m) (does-refused b m)
-      (λ ws h. does-said b m (answered (handed ws h)) (meaning b m) m refl (record { fit = fits; means = refl }))
-
-  -- into an output of 135 words
-  module _ {r : Handout} (out out′ : List ℕ) (long : length out ≡ 135) (c : Collects b (collect f n (length out)) m r out out′) where
-    reply-is : r ≡ replied (said 135)
-    reply-is =
-        c .reply
-        ∙ ap (λ (o : Outcome). replied (o .said)) (expects b m fits (collect f n (length out)))
-        ∙ ap (λ (k : ℕ). replied (said k)) long
-
-    pub refused-said : (k : ℕ) → r ≡ Handout.Refused k → said 135 ≡ refused k
-    unfolding Hands
-    refused-said k e =
-        refused-back (said 135) (collect-cases b (meaning b m) f n 135 (λ o. Hands (o .said)) (λ _. tt) (λ _ _. tt)) k (sym reply-is ∙ e)
-
-    -- the words handed out stand in front
-    pub record Handed (count : Words) (h : ℕ) : Type 0 where
-      pub words : List ℕ
-      pub is : said 135 ≡ answered (handed words h)
-      pub number : count .0 ≡ length words
-      pub few : length words ≤ 135
-      pub front : take (count .0) out′ ≡ words
-
-    pub handed-said : (count : Words) (h : ℕ) → r ≡ Handout.Handed count h → length out′ ≡ length out → Handed count h
-    unfolding written
-    handed-said count h e l =
-        let (ws, (s, k)) = handed-back (said 135) count h (sym reply-is ∙ e) in
-        let o : out′ ≡ written (answered (handed ws h)) out =
-        c .output
-        ∙ ap (λ (o : Outcome). written (o .said) out) (expects b m fits (collect f n (length out)))
-        ∙ ap (λ (k : ℕ). written (said k) out) long
-        ∙ ap (λ (s : Said). written s out) s in
-        record {
-          words = ws;
-          is = s;
-          number = k;
-          few = omega (arith, l, long, ap length o, length-append ws (drop (length ws) out), length-drop (length ws) out);
-          front = ap (λ (j : ℕ). take j out′) k ∙ ap (take (length ws)) o ∙ take-at ws (drop (length ws) out) (length ws) refl;
-        }
+    pub listed-said : {h : ℕ} {said : Said} {m′ : Machine} → w ≡ Want.Acknowledge h
+        → Does full (step full (meaning full lent) (acknowledge n h)) lent said m′ → Put old to (saidLine said) new r → r ≤ to + 691
+        → Tells full (wanted n w) lent old to new r m′
+    unfolding wanted
+    listed-said {h} {said} {m′} e d p l =
+        subst (λ (w : Want). Tells full (wanted n w) lent old to new r m′) (sym e) (record {
+          does = subst (λ (z : Said). Does full (step full (meaning full lent) (acknowledge n h)) lent z m′) (d .says) d;
+          wrote = put-as (ap saidLine (d .says)) p;
+          room = l;
+        })

@@ -4,7 +4,7 @@
 use Prim.Native.Nat.{ℕ, _+_, _-_, _≤_}
 use mathlib.Core.Path.{_≡_, refl, sym, ap, _∙_, subst}
 use mathlib.Core.Bool.{true}
-use mathlib.Core.List.{List}
+use mathlib.Core.List.{List, []}
 use native.Mathlib.Omega.{arith}
 use lib.Dec.{eqb}
 use lib.ListN.{length, take, drop, length-take}
@@ -14,9 +14,8 @@ use Rattle.units.proofs.Choice.{yes-cond}
 use Rattle.meaning.specs.Bench.{Bench}
 use Rattle.meaning.specs.Call.{Call, Said, Outcome, step}
 use Rattle.demands.specs.Sound.{Sound}
-use Rattle.state.specs.Machine.{Machine, machine, meaning}
+use Rattle.state.specs.Machine.{Machine, meaning}
 use Rattle.state.specs.Consistent.{unfit}
-use Rattle.state.specs.declared.State.{State}
 use Rattle.promise.specs.Obeyed.{Does, expected, Obeyed}
 use Rattle.promise.proofs.Parts.{parts}
 use Rattle.promise.proofs.Promises.{by-step}
@@ -26,8 +25,8 @@ use Rattle.text.proofs.Writing.{put-as}
 use Rattle.dialog.specs.Spoken.{Spoken, passed, unreadable, call, look, spoken}
 use Rattle.dialog.specs.Dialog.{unreadableLine, saidLine, storeLine, replyTo}
 use Rattle.dialogout.proofs.Rooms.{length-unreadable, store-short}
-use Rattle.talk.specs.declared.Played.{Played}
 use Rattle.talk.specs.Talk.{answerTo, Follows, Plays}
+use Rattle.talk.specs.Aim.{Tells}
 use Rattle.talk.proofs.Lying.{store-lies}
 
 -- a part of a slice, as the code lends it and as a definition has it
@@ -81,15 +80,15 @@ module _ (b : Bench) (m : Machine) (fits : unfit b m ≡ 0) where
 
   -- ---- a line played, by what it says
   module _ {line old : List ℕ} {to : ℕ} where
-    pub plays-passed : spoken line ≡ passed → Plays b m line old to old to m
-    unfolding answerTo Follows
-    plays-passed e = record {
-      wrote = put-as (sym (ap (answerTo b m) e)) (record { next = omega arith; wrote = refl });
-      follows = subst (λ (s : Spoken). Follows b m s m) (sym e) refl;
-      room = omega arith;
-    }
-
     module _ {new : List ℕ} {at : ℕ} where
+      pub plays-passed : spoken line ≡ passed → Put old to [] new at → Plays b m line old to new at m
+      unfolding answerTo Follows
+      plays-passed e p = record {
+        wrote = put-as (sym (ap (answerTo b m) e)) p;
+        follows = subst (λ (s : Spoken). Follows b m s m) (sym e) refl;
+        room = omega (arith, p .next);
+      }
+
       pub plays-unreadable : spoken line ≡ unreadable → Put old to unreadableLine new at → Plays b m line old to new at m
       unfolding answerTo Follows
       plays-unreadable e p = record {
@@ -100,14 +99,16 @@ module _ (b : Bench) (m : Machine) (fits : unfit b m ≡ 0) where
 
       -- a look, and the words that were looked at written
       pub plays-look : (f c : ℕ) → spoken line ≡ look f c → (c ≤ 128) × (f + c ≤ length (m .store))
-          → Put old to (storeLine (take (f + c - f) (drop f (m .store)))) new at → Plays b m line old to new at m
+          → Put old to (storeLine (slice f (f + c) (m .store))) new at → Plays b m line old to new at m
       unfolding answerTo Follows
       plays-look f c e (few, inside) p =
-          let short : length (take (f + c - f) (drop f (m .store))) ≤ 128 = omega (arith, few, length-take (f + c - f) (drop f (m .store))) in
+          let w : List ℕ = slice f (f + c) (m .store) in
+          let l : length w ≤ 128 =
+          omega (arith, few, ap length (sym (part-is f c (m .store) inside)), length-take (f + c - f) (drop f (m .store))) in
           record {
-            wrote = put-as (ap storeLine (part-is f c (m .store) inside) ∙ sym (yes-cond _ store-long) ∙ sym (ap (answerTo b m) e)) p;
+            wrote = put-as (sym (yes-cond _ store-long) ∙ sym (ap (answerTo b m) e)) p;
             follows = subst (λ (s : Spoken). Follows b m s m) (sym e) refl;
-            room = omega (arith, p .next, store-short (take (f + c - f) (drop f (m .store))) short);
+            room = omega (arith, p .next, store-short w l);
           }
 
       -- a call, made as the meaning's step asks, and what was said of it written
@@ -118,14 +119,11 @@ module _ (b : Bench) (m : Machine) (fits : unfit b m ≡ 0) where
           let s : said ≡ expected b c m .said = d .says ∙ sym (ap (λ (o : Outcome). o .said) (expects c)) in
           record {
             wrote = put-as (ap saidLine s ∙ sym (ap (answerTo b m) e)) p;
-            follows = subst (λ (s : Spoken). Follows b m s m′) (sym e) (subst (λ (s : Said). Obeyed b c m s m′) s (by-step b m c fits refl d));
+            follows = subst (λ (s : Spoken). Follows b m s m′) (sym e)
+                (subst (λ (s : Said). Obeyed b c m s m′) s (by-step b m c fits refl d));
             room = h;
           }
 
-    -- the same, as `told` hands it back
-    pub plays-told : (c : Call) {said : Said} {s : State} {store memory new : List ℕ} {r : Played} → spoken line ≡ call c
-        → Does b (step b (meaning b m) c) m said (machine s store memory)
-        → (r .state ≡ s) × (r .at ≤ to + 691) × Put old to (saidLine said) new (r .at)
-        → Plays b m line old to new (r .at) (machine (r .state) store memory)
-    plays-told c {said} {s} {store} {memory} e d (q, h, p) =
-        plays-call c e (subst (λ (s : State). Does b (step b (meaning b m) c) m said (machine s store memory)) (sym q) d) p h
+      -- the same, as `at_list` tells it
+      pub plays-tells : (c : Call) {m′ : Machine} → spoken line ≡ call c → Tells b c m old to new at m′ → Plays b m line old to new at m′
+      plays-tells c e t = plays-call c e (t .does) (t .wrote) (t .room)

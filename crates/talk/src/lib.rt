@@ -1,128 +1,180 @@
-// A line of the console, played on a machine that is known to be consistent.
-use dialogout::put_collected;
+// A line of the console: aimed, and played at its own list or reader. The state stays where it lies: its owner takes the parts out and puts
+// them back.
+pub mod aim;
+
+use crate::aim::Aside;
+use crate::aim::Ask;
+use crate::aim::Order;
+use crate::aim::Want;
+use acts::governed;
+use acts::looked;
+use acts::obeyed;
+use command::command_data;
+use dialogout::put_handed;
 use dialogout::put_said;
 use dialogout::put_store;
 use dialogout::put_unreadable;
-use handover::acknowledge;
-use handover::collect;
-use lines::Heard;
-use lines::read_line;
+use handover::acknowledged;
 use listingout::put_refused;
-use obey::check::check;
-use obey::obey;
-use plaques::arrive;
-use plaques::leave;
-use promise::Called;
-use promise::Handout;
-use state::State;
+use lists::room::place_of;
+use plaques::brought;
+use plaques::left;
+use settle::Housed;
+use settle::Seated;
+use state::Name;
+use state::node::Node;
+use state::reader::Reader;
 use units::Form;
-ghost use mathlib.Core.Path.{_≡_};
+use units::Words;
 ghost use Prim.Native.Nat.{_+_, _≤_};
-ghost use lib.ListN.{length};
-ghost use Rattle.meaning.specs.Bench.{full};
-ghost use Rattle.meaning.specs.Call as S;
-ghost use Rattle.state.specs.Machine.{machine, meaning};
-ghost use Rattle.state.specs.Consistent.{unfit};
-ghost use Rattle.promise.specs.Obeyed.{spoken};
+ghost use mathlib.Core.Path.{_≡_};
+ghost use lib.ListN.{length, take};
+ghost use Rattle.meaning.specs.Bench.{full, hub};
+ghost use Rattle.meaning.specs.Call.{command, step};
+ghost use Rattle.settle.specs.Settled.{Seatable, Seats, Houseable, Houses};
+ghost use Rattle.handover.specs.Handed.{Listable};
 ghost use Rattle.text.specs.Text.{Put};
-ghost use Rattle.dialog.specs.Dialog.{saidLine};
-ghost use Rattle.talk.specs.Talk.{Plays};
+ghost use Rattle.talk.specs.Aim.{asked, Orders, Asks, asideLine, Lies, Shows, TellsAt};
 
-// The state after a line, and the place in the output after its answer.
-pub struct Played {
-    pub state: State,
-    pub at: usize,
-}
-
-// What a call said, written.
-fn told(called: Called, out: &mut [u8], to: usize) -> Played
-    requires { ⌜ to + 691 ≤ length (now out) ⌝ }
-    ensures { λ r. ⌜ (r .state ≡ called .state) × (r .at ≤ to + 691) × Put (now (out .entry)) to (saidLine (spoken (called .reply))) (now (out .exit)) (r .at) ⌝ }
+// What is no call, or a call that is refused by what it says: said, and nothing changes.
+pub fn put_aside(out: &mut [u8], to: usize, aside: Aside, store: &[u16]) -> usize
+    requires { ⌜ (to + 691 ≤ length (now out)) × Lies aside (length (now store)) ⌝ }
+    ensures { λ r. ⌜ Put (now (out .entry)) to (asideLine aside (now (store .entry))) (now (out .exit)) r ⌝ }
 {
-    let state = called.state;
-    let reply = called.reply;
-    let at = put_said(out, to, reply);
-    Played { state, at }
+    match aside {
+        Aside::Passed => to,
+        Aside::Unreadable => put_unreadable(out, to),
+        Aside::Refused(k) => put_refused(out, to, k),
+        Aside::Look(first, count) => {
+            let from = first as usize;
+            let end = from + count as usize;
+            put_store(out, to, &store[from..end])
+        }
+    }
 }
 
-// The oldest answer of a node, collected and written.
-fn hand_out(
-    s: State,
-    form: Form,
+// The oldest answer of the node at index i, in a form, straight from the store; or that there is none.
+fn put_oldest(
+    i: usize,
     node: u8,
+    own: Node,
+    held: [Words; 17],
+    form: Form,
     store: &[u16],
-    plaques: &[u8],
     out: &mut [u8],
     to: usize,
 ) -> usize
-    requires { ⌜ unfit full (machine s (now store) (now plaques)) ≡ 0 ⌝ }
-    requires { ⌜ to + 691 ≤ length (now out) ⌝ }
-    ensures { λ r. ⌜ (r ≤ to + 691) × Put (now (out .entry)) to (saidLine ((S.step full (meaning full (machine s (now (store .entry)) (now (plaques .entry)))) (S.collect form node 135)) .said)) (now (out .exit)) r ⌝ }
+    requires { ⌜ Listable full i own held (now store) × (to + 691 ≤ length (now out)) ⌝ }
+    ensures { λ r. ⌜ Shows full form node i own held (now (store .entry)) (now (out .entry)) to (now (out .exit)) r ⌝ }
 {
-    let mut words = [0u16; 135];
-    match collect(s, form, node, store, plaques, &mut words) {
-        Handout::Refused(k) => put_refused(out, to, k),
-        Handout::Handed(count, number) => {
-            let n = count.0 as usize;
-            put_collected(out, to, number, &words[..n])
+    if own.answers == 0 {
+        return put_refused(out, to, 14);
+    }
+    let place = place_of(held, i);
+    let end = place + store[place] as usize;
+    put_handed(out, to, own.handover, form, node, &store[place..end])
+}
+
+// A node and the words that all nodes hold, after a call for its list; and the place in the output after what was said.
+pub struct ListTold {
+    pub node: Node,
+    pub held: [Words; 17],
+    pub at: usize,
+}
+
+// A call for the list of a node, at index i, and its line.
+pub fn at_list(
+    i: usize,
+    node: u8,
+    own: Node,
+    held: [Words; 17],
+    want: Want,
+    store: &mut [u16],
+    out: &mut [u8],
+    to: usize,
+) -> ListTold
+    requires { ⌜ Listable full i own held (now store) × (to + 691 ≤ length (now out)) ⌝ }
+    ensures { λ r. ⌜ TellsAt full want node i own held (now (store .entry)) (now (store .exit)) (now (out .entry)) to (now (out .exit)) r ⌝ }
+{
+    match want {
+        Want::Collect(form) => {
+            let at = put_oldest(i, node, own, held, form, store, out, to);
+            ListTold {
+                node: own,
+                held,
+                at,
+            }
+        }
+        Want::Acknowledge(number) => {
+            let r = acknowledged(i, own, held, number, store);
+            let after = r.node;
+            let less = r.held;
+            let reply = r.reply;
+            let at = put_said(out, to, reply);
+            ListTold {
+                node: after,
+                held: less,
+                at,
+            }
         }
     }
 }
 
-pub fn talk(
-    s: State,
-    line: &[u8],
+// A call for a reader.
+pub fn at_reader(
+    node: u8,
+    own: Node,
+    x: Reader,
+    held: [Words; 17],
+    ask: Ask,
+    packet: &[u16],
+    id: &[u8],
+    content: &[u8],
     store: &mut [u16],
     plaques: &mut [u8],
-    out: &mut [u8],
-    to: usize,
-) -> Played
-    requires { ⌜ unfit full (machine s (now store) (now plaques)) ≡ 0 ⌝ }
-    requires { ⌜ to + 691 ≤ length (now out) ⌝ }
-    ensures { λ r. ⌜ Plays full (machine s (now (store .entry)) (now (plaques .entry))) (now (line .entry)) (now (out .entry)) to (now (out .exit)) (r .at) (machine (r .state) (now (store .exit)) (now (plaques .exit))) ⌝ }
+) -> Seated
+    requires { ⌜ Asks full node ask (now packet) (now id) (now content) × Seatable full node own x held (now store) (now plaques) ⌝ }
+    ensures { λ r. ⌜ Seats full (λ g. step full g (asked node ask (now (packet .entry)) (now (id .entry)) (now (content .entry)))) node own x held
+        (now (store .entry)) (now (plaques .entry)) r (now (store .exit)) (now (plaques .exit)) ⌝ }
 {
-    let mut packet = [0u16; 256];
-    let mut name = [0u8; 16];
-    let mut content = [0u8; 2047];
-    match read_line(line, &mut packet, &mut name, &mut content) {
-        Heard::Passed => Played { state: s, at: to },
-        Heard::Unreadable => {
-            let at = put_unreadable(out, to);
-            Played { state: s, at }
+    match ask {
+        Ask::Command(order) => {
+            let n = order.words.0 as usize;
+            let form = order.form;
+            let data = command_data(&packet[..n], form);
+            let kind = order.kind;
+            let what = order.what;
+            let stamp = order.stamp;
+            obeyed(own, x, held, stamp, kind, what, data, store, plaques)
         }
-        Heard::Command { stamp, form, words } => {
-            let n = words.0 as usize;
-            told(obey(s, stamp, form, &packet[..n], store, plaques), out, to)
-        }
-        Heard::Check { node, stamp, clock } => told(
-            check(s, node, stamp, clock, store, plaques),
-            out,
-            to,
-        ),
-        Heard::Arrive { node, id, bytes } => {
-            let n = id.0 as usize;
+        Ask::Check { stamp, clock } => looked(node, own, x, held, stamp, clock, store, plaques),
+        Ask::Arrive { id: i, bytes } => {
+            let n = i.0 as usize;
             let k = bytes.0 as usize;
-            told(
-                arrive(s, node, &name[..n], &content[..k], store, plaques),
-                out,
-                to,
-            )
+            brought(node, own, x, held, &id[..n], &content[..k], plaques)
         }
-        Heard::Leave(node) => told(leave(s, node, store, plaques), out, to),
-        Heard::Collect(node, form) => {
-            let at = hand_out(s, form, node, store, plaques, out, to);
-            Played { state: s, at }
-        }
-        Heard::Acknowledge(node, number) => told(
-            acknowledge(s, node, number, store, plaques),
-            out,
-            to,
-        ),
-        Heard::Store(first, count) => {
-            let from = first as usize;
-            let end = from + count as usize;
-            let at = put_store(out, to, &store[from..end]);
-            Played { state: s, at }
-        }
+        Ask::Leave => left(own, x, held),
     }
+}
+
+// A command for the gateway itself.
+pub fn at_hub(
+    nodes: [Node; 17],
+    held: [Words; 17],
+    name: Name,
+    order: Order,
+    packet: &[u16],
+    store: &mut [u16],
+) -> Housed
+    requires { ⌜ Orders full (now packet) order × (order .what .node ≡ hub) × Houseable full nodes held name (now store) ⌝ }
+    ensures { λ r. ⌜ Houses full (λ g. step full g (command (order .stamp) (order .form) (take (order .words .0) (now (packet .entry))))) nodes held
+        name (now (store .entry)) r (now (store .exit)) ⌝ }
+{
+    let n = order.words.0 as usize;
+    let form = order.form;
+    let data = command_data(&packet[..n], form);
+    let kind = order.kind;
+    let what = order.what;
+    let stamp = order.stamp;
+    governed(nodes, held, name, stamp, kind, what, data, store)
 }

@@ -1,6 +1,6 @@
 // A tour of the bench: at each reader a plaque arrives, a command reads three of its bytes, and the answer is collected and acknowledged;
 // at the gateway the name is asked for. Each answer, in framed form, is a line. Then the gateway's handover number goes around.
-use dialogout::put_collected;
+use dialogout::put_handed;
 use gateway::acknowledge;
 use gateway::arrive;
 use gateway::collect;
@@ -77,17 +77,20 @@ fn clear(s: State, store: &mut [u16], plaques: &mut [u8]) -> State {
 
 // The gateway's oldest answer with its handover number, as the console says it.
 fn show(s: State, store: &[u16], plaques: &[u8]) {
-    let mut out = [0u16; 135];
-    let Handout::Handed(words, number) = collect(s, Form::Framed, 32, store, plaques, &mut out)
+    let mut out = [0u16; 134];
+    let Handout::Handed(words, number) = collect(s, Form::Register, 32, store, plaques, &mut out)
     else {
         return;
     };
     let n = words.0 as usize;
-    if 135 < n {
+    if n < 1 {
+        return;
+    }
+    if 134 < n {
         return;
     }
     let mut line = [0u8; 691];
-    let end = put_collected(&mut line, 0, number, &out[..n]);
+    let end = put_handed(&mut line, 0, number, Form::Framed, 32, &out[..n]);
     if end <= 691 {
         io::write_all(1, &line[..end]);
     }

@@ -1,57 +1,35 @@
+-- The lines' answers have room, since a line has a byte at least.
+-- Assumes nothing.
+use Prim.Native.Nat.{_≤_}
 use mathlib.Core.Path.{sym}
 use native.Mathlib.Omega.{arith}
+use denote.Ref.{now}
+use lib.ListN.{length}
 use lib.Seq.{length-take-le}
-use Rattle.meaning.specs.Bench.{full}
-use Rattle.talk.proofs.Talking.{plays-fit}
 use borrow.Author.Needs.{needs}
+use Rattle.text.proofs.Writing.{put-length}
+use Rattle.console.proofs.Lines.{lines-few}
 use Rattle.console.proofs.answer.Statement.{statement}
 use Rattle.console.proofs.answer.Tie as tie
 
-slice-aggregate-talk : tie.Need-slice-aggregate-talk
-slice-aggregate-talk c = search needs
+speak-requires : tie.Need-speak-requires
+speak-requires c κs =
+    let s = c .before .before .before .before .before .before .before in
+    (s .pre .0, omega (arith, lines-few (now (s .args .lines)), s .pre .1))
 
-talk-requires : tie.Need-talk-requires
-talk-requires c κs = search needs
+written : (k : tie.After-speak) → k .speak .result .at ≤ length (now (k .before .before .before .before .before .before .before .before .args .out))
+written k = k .speak .ensures .fits
 
-array-share-prefix-out : tie.Need-array-share-prefix-out
-array-share-prefix-out c =
-    omega (
-      arith,
-      c .before .before .before .before .before .talk .ensures .room,
-      c .before .before .before .before .before .talk .kept .1 .1 .1 .1 .0,
-    )
+prefix : tie.Need-slice-reshare-prefix-put
+prefix c = let k = c .before .before .before .before .before .before in omega (arith, k .speak .ensures .fits, put-length (k .speak .ensures .wrote))
 
 slice-aggregate-put : tie.Need-slice-aggregate-put
-slice-aggregate-put c =
-    sym (length-take-le _ _ (omega (
-      arith,
-      c .before .before .before .before .before .before .talk .ensures .room,
-      c .before .before .before .before .before .before .talk .kept .1 .1 .1 .1 .0,
-    )))
-
-put-requires : tie.Need-put-requires
-put-requires c κs = search needs
-
-same-length : tie.Need-same-length
-same-length c = search needs
-
-same-length-2 : tie.Need-same-length-2
-same-length-2 c = search needs
+slice-aggregate-put c = sym (length-take-le _ _ (prefix (c .before)))
 
 returns : tie.Need-returns
-returns c =
-    plays-fit full _ (c .before .before .before .before .before .before .before .before .before .before .before .before .before .before
-    .before .pre) (c .before .before .before .before .before .before .before .before .talk .ensures)
+returns c = c .before .before .before .before .before .before .before .before .before .speak .ensures .sound
 
 pub answer-spec : {M : Type 1} → statement M
 answer-spec =
     tie.close
-    (tie.spec
-    slice-aggregate-talk
-    talk-requires
-    array-share-prefix-out
-    slice-aggregate-put
-    put-requires
-    same-length
-    same-length-2
-    returns)
+    (tie.spec speak-requires prefix slice-aggregate-put (λ c κs. search needs) (λ c. search needs) (λ c. search needs) (λ c. search needs) returns)
