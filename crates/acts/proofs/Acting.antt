@@ -1,25 +1,15 @@
 -- What was decided of the parts is what the definition's own node makes of the call, on any machine that they are the parts of.
 -- Assumes nothing.
-use Prim.Native.Nat.{ℕ, _-_, _≤_}
-use mathlib.Core.Path.{_≡_, refl, sym, ap, _∙_, subst}
-use mathlib.Core.Bool.{true}
-use mathlib.Core.List.{List, []}
-use native.Mathlib.Omega.{arith}
-use lib.ListN.{length, getD}
-use Rattle.units.specs.Stamp.{isStamp}
+use Rattle.units.proofs.Common.{sym, _∙_, _≡_, refl, ap, subst, true, List, [], ℕ, _≤_, _-_, arith, length, getD, isStamp}
 use Rattle.units.specs.declared.Words.{Words}
 use Rattle.units.specs.declared.stamp.Stamp.{Stamp}
-use Rattle.meaning.specs.Bench.{full, hub}
-use Rattle.meaning.specs.Packet.{overall}
+use Rattle.meaning.proofs.Terms.{full, hub, overall, Gateway, setReader, Outcome, answered, Local, Desk, quiet, fromDesk, lifted, settled}
+use Rattle.meaning.proofs.Terms.{obeyed, looked, governed}
 use Rattle.meaning.specs.Gateway as M
-use Rattle.meaning.specs.Gateway.{Gateway, setReader}
-use Rattle.meaning.specs.Call.{Outcome, answered, Local, Desk, quiet, fromDesk, lifted, settled, obeyed, looked, governed}
 use Rattle.meaning.specs.declared.table.Kind.{Kind}
 use Rattle.meaning.specs.declared.packet.Command.{Command}
 use Rattle.demands.specs.Sound.{full-sound}
-use Rattle.state.specs.State.{freshNode}
-use Rattle.state.specs.Machine.{Machine, machine, meaning, fieldOf, modeOf, readerOf, regionOf}
-use Rattle.state.specs.Consistent.{unfit}
+use Rattle.state.proofs.Terms.{freshNode, Machine, machine, meaning, fieldOf, modeOf, readerOf, regionOf, unfit}
 use Rattle.state.specs.declared.node.Node.{Node}
 use Rattle.state.specs.declared.reader.Reader.{Reader}
 use Rattle.state.specs.declared.Name.{Name}
@@ -56,7 +46,8 @@ module _ {n : ℕ} {own : Node} {x : Reader} {held : List Words} {store memory :
   readable g l = record {
     reader = a .is;
     stamp = g;
-    inOrder = reader-in-order full (machine (a .state) store memory) n (a .is) x (a .seat .reader) (parts full (machine (a .state) store memory) (a .fit));
+    inOrder = reader-in-order full (machine (a .state) store memory) n (a .is) x (a .seat .reader)
+        (parts full (machine (a .state) store memory) (a .fit));
     whole = lent-long n (a .is) memory (memory-long a);
     long = l;
   }
@@ -68,7 +59,8 @@ module _ {n : ℕ} {own : Node} {x : Reader} {held : List Words} {store memory :
     -- the node's count, and the reader, as the machine means them
     count : g .nodes n .count ≡ own .instance
     count =
-        count-is full (machine s store memory) fit n (n - 1) (reader-node full n (a .is)) (reader-slot full full-sound n (a .is)) own (at .node)
+        count-is full (machine s store memory) fit n (n - 1) (reader-node full n (a .is)) (reader-slot full full-sound n (a .is)) own
+        (at .node)
 
     own-reader : g .reader n ≡ readerOf x (Lent n (a .is) memory (memory-long a))
     own-reader =
@@ -97,7 +89,8 @@ module _ {n : ℕ} {own : Node} {x : Reader} {held : List Words} {store memory :
     look t clock = looked n (g .nodes n) t clock (g .reader n) (g .reader n .field) (g .reader n .mode)
 
     look-is : (t : Stamp) (clock : ℕ)
-        → looked n (bare (own .instance)) t clock (readerOf x (Lent n (a .is) memory (memory-long a))) (fieldOf (x .plaque)) (modeOf (x .reading) (x .report))
+        → looked n (bare (own .instance)) t clock (readerOf x (Lent n (a .is) memory (memory-long a))) (fieldOf (x .plaque))
+        (modeOf (x .reading) (x .report))
         ≡ look t clock
     unfolding readerOf
     look-is t clock =
@@ -111,11 +104,13 @@ module _ {n : ℕ} {own : Node} {x : Reader} {held : List Words} {store memory :
         → looking full g n t clock ≡ seating full n d [] answer memory g
     unfolding looking
     looking-is t clock {answer} {d} v =
-        ap (λ (l : Local M.Reader). settled full g (lifted (setReader n) n g l)) (sym (look-is t clock) ∙ sym (by-region [] answer d (v .serves .same)))
+        ap (λ (l : Local M.Reader). settled full g (lifted (setReader n) n g l))
+        (sym (look-is t clock) ∙ sym (by-region [] answer d (v .serves .same)))
 
     quiet-is : (t : Stamp) (clock : ℕ) → quietly x clock ≡ true → look t clock ≡ Local.give quiet (g .reader n)
     quiet-is t clock q =
-        sym (look-is t clock) ∙ look-quiet (own .instance) clock n t x (Lent n (a .is) memory (memory-long a)) q ∙ ap (Local.give quiet) (sym own-reader)
+        sym (look-is t clock) ∙ look-quiet (own .instance) clock n t x (Lent n (a .is) memory (memory-long a)) q ∙ ap (Local.give quiet)
+        (sym own-reader)
 
   pub suited : (ws : List ℕ) (c : Change) → Suits c ws (length (Lent n (a .is) memory (memory-long a))) → Suits c ws 1024
   suited ws c h = subst (Suits c ws) (lent-long n (a .is) memory (memory-long a)) h
@@ -127,9 +122,11 @@ module _ {n : ℕ} {own : Node} {x : Reader} {held : List Words} {store memory :
       → memory′ ≡ memoryAfter full n (r .reply) (d .change) ws memory
       → Seats full (λ g. ordered full g t k c (loadOf full c ws)) n own x held store memory r store′ memory′
   obeys t k c e ws {answer} {d} v r {store′} {memory′} q z s at fit =
-      subst (λ (l : List ℕ). Does full (ordered full (meaning full (machine s store memory)) t k c (loadOf full c ws)) (machine s store memory) (spoken (r .reply))
+      subst (λ (l : List ℕ). Does full (ordered full (meaning full (machine s store memory)) t k c (loadOf full c ws))
+      (machine s store memory) (spoken (r .reply))
       (machine (seated s n r) store′ l)) (sym z)
-      (subst (λ (o : Outcome). Does full o (machine s store memory) (spoken (r .reply)) (machine (seated s n r) store′ (memoryAfter full n (r .reply) (d .change) ws memory)))
+      (subst (λ (o : Outcome). Does full o (machine s store memory) (spoken (r .reply))
+      (machine (seated s n r) store′ (memoryAfter full n (r .reply) (d .change) ws memory)))
       (sym (ordered-is s at fit t k c e ws v)) (q ws memory (suited ws (d .change) (v .suits)) s at fit))
 
   pub looks : (t : Stamp) (clock : ℕ) {answer : List ℕ} {d : Decided}
@@ -139,22 +136,27 @@ module _ {n : ℕ} {own : Node} {x : Reader} {held : List Words} {store memory :
   looks t clock {answer} {d} v r {store′} q s at fit =
       let kept : memoryAfter full n (r .reply) (d .change) [] memory ≡ memory =
       ap (λ (c : Change). memoryAfter full n (r .reply) c [] memory) (v .kept) ∙ kept-back n (a .is) memory (memory-long a) [] (r .reply) in
-      subst (λ (l : List ℕ). Does full (looking full (meaning full (machine s store memory)) n t clock) (machine s store memory) (spoken (r .reply))
+      subst (λ (l : List ℕ). Does full (looking full (meaning full (machine s store memory)) n t clock) (machine s store memory)
+      (spoken (r .reply))
       (machine (seated s n r) store′ l)) kept
-      (subst (λ (o : Outcome). Does full o (machine s store memory) (spoken (r .reply)) (machine (seated s n r) store′ (memoryAfter full n (r .reply) (d .change) [] memory)))
+      (subst (λ (o : Outcome). Does full o (machine s store memory) (spoken (r .reply))
+      (machine (seated s n r) store′ (memoryAfter full n (r .reply) (d .change) [] memory)))
       (sym (looking-is s at fit t clock v)) (q [] memory (suited [] (d .change) (v .serves .suits)) s at fit))
 
   pub looks-quiet : (t : Stamp) (clock : ℕ) → quietly x clock ≡ true
-      → Seats full (λ g. looking full g n t clock) n own x held store memory (record { node = own; held = held; reader = x; reply = Reply.Quiet }) store memory
+      → Seats full (λ g. looking full g n t clock) n own x held store memory
+      (record { node = own; held = held; reader = x; reply = Reply.Quiet }) store memory
   unfolding spoken looking
   looks-quiet t clock v s at fit =
       let m : Machine = machine s store memory in
-      subst (λ (k : State). Does full (looking full (meaning full m) n t clock) m (answered quiet) (machine k store memory)) (sym (still n own x held s Reply.Quiet at))
+      subst (λ (k : State). Does full (looking full (meaning full m) n t clock) m (answered quiet) (machine k store memory))
+      (sym (still n own x held s Reply.Quiet at))
       (giving full m (setReader n) n (quiet-is s at fit t clock v) m (record { fit = fit; means = sym (same-reader (meaning full m) n) }))
 
 -- ---- at the gateway's own node
 module _ {nodes : List Node} {held : List Words} {name : Name} {store : List ℕ} (a : Houseable full nodes held name store) where
-  pub governable : (t : Stamp) (k : Kind) (c : Command) (ws : List ℕ) → isStamp t ≡ true → ToldOf full k c ws → {room : ℕ} → overall 255 ≤ room
+  pub governable : (t : Stamp) (k : Kind) (c : Command) (ws : List ℕ) → isStamp t ≡ true → ToldOf full k c ws → {room : ℕ} → overall 255 ≤
+      room
       → Governable full t k c ws name room
   governable t k c ws g o {room} l =
       let p = parts full (machine (a .state) store (a .memory)) (a .fit) in
@@ -177,5 +179,6 @@ module _ {nodes : List Node} {held : List Words} {name : Name} {store : List ℕ
       sym (governed-count (meaning full m .nodes hub) (titleOf (s .name)) t (loadOf full c ws) k)
       ∙ ap (λ (i : ℕ). governed (bare i) (titleOf (s .name)) t k (loadOf full c ws)) count
       ∙ ap (λ (j : Name). governed (bare (own .instance)) (titleOf j) t k (loadOf full c ws)) (at .title) ∙ sym (v .same) in
-      subst (λ (l : Local Desk). Does full (settled full (meaning full m) (lifted fromDesk hub (meaning full m) l)) m (spoken (r .reply)) (machine (housed s r) store′ memory))
+      subst (λ (l : Local Desk). Does full (settled full (meaning full m) (lifted fromDesk hub (meaning full m) l)) m (spoken (r .reply))
+      (machine (housed s r) store′ memory))
       (sym e) (q s memory at fit)

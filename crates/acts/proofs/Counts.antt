@@ -1,14 +1,9 @@
 -- What a call's outcome takes of its node is the count.
 -- Assumes nothing.
-use Prim.Native.Nat.{ℕ}
-use mathlib.Core.Path.{_≡_, refl, sym, ap}
-use mathlib.Core.Bool.{false}
-use mathlib.Core.List.{List, [], _∷_}
+use Rattle.units.proofs.Common.{sym, _≡_, refl, ap, false, List, [], _∷_, ℕ}
 use Rattle.units.specs.declared.stamp.Stamp.{Stamp}
-use Rattle.meaning.specs.Bench.{hub}
-use Rattle.meaning.specs.Response.{responseBody}
-use Rattle.meaning.specs.Gateway.{Node, Reader, Field, empty, plaque, Mode, off, on, clearing, emptied, swept}
-use Rattle.meaning.specs.Call.{Local, answer, tagNotFound, tagged, obeyed, looked, ruled, governed}
+use Rattle.meaning.proofs.Terms.{hub, responseBody, Node, Reader, Field, empty, plaque, Mode, off, on, clearing, emptied, swept, Local}
+use Rattle.meaning.proofs.Terms.{answer, tagNotFound, tagged, obeyed, looked, ruled, governed}
 use Rattle.meaning.specs.declared.table.OnPlaque.{OnPlaque}
 use Rattle.meaning.specs.declared.table.OnPlaque.the-variants.{Fill, Read, Write, ReadId, Search}
 use Rattle.meaning.specs.declared.table.OfGateway.the-variants.{GetName, SetName, Initialise, ResetGateway, Clear}
@@ -59,7 +54,8 @@ module _ (y : Node) (s : List ℕ) (t : Stamp) (bs : List ℕ) where
   governed-count (K.Gateway Initialise) = refl
   governed-count (K.Gateway ResetGateway) = refl
   governed-count (K.Gateway Clear) =
-      ap (λ (c : ℕ). Local.due (record { broom = clearing; title = s }) (responseBody (record { error = false; echo = 0x79; count = c; node = hub; stamp = t }) []))
+      ap (λ (c : ℕ). Local.due (record { broom = clearing; title = s })
+      (responseBody (record { error = false; echo = 0x79; count = c; node = hub; stamp = t }) []))
       (sym (kept-count (y .pending)))
   governed-count (K.Plaque k) = refl
   governed-count K.Continuous = refl

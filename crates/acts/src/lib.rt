@@ -16,6 +16,8 @@ use state::Name;
 use state::node::Node;
 use state::reader::Reader;
 use units::Bytes;
+use units::NODES;
+use units::READERS;
 use units::Words;
 use units::stamp::Stamp;
 ghost use mathlib.Core.Path.{_≡_};
@@ -30,7 +32,7 @@ ghost use Rattle.settle.specs.Settled.{Seatable, Seats, Houseable, Houses};
 pub fn obeyed(
     own: Node,
     x: Reader,
-    held: [Words; 17],
+    held: [Words; NODES],
     t: Stamp,
     kind: Kind,
     m: Command,
@@ -39,7 +41,8 @@ pub fn obeyed(
     plaques: &mut [u8],
 ) -> Seated
     requires { ⌜ Seatable full (m .node) own x held (now store) (now plaques) × (isStamp t ≡ true) × Ready full kind m (now words) ⌝ }
-    ensures { λ r. ⌜ Seats full (λ g. ordered full g t kind m (loadOf full m (now (words .entry)))) (m .node) own x held (now (store .entry)) (now (plaques .entry)) r (now (store .exit)) (now (plaques .exit)) ⌝ }
+    ensures { λ r. ⌜ Seats full (λ g. ordered full g t kind m (loadOf full m (now (words .entry)))) (m .node) own x held
+        (now (store .entry)) (now (plaques .entry)) r (now (store .exit)) (now (plaques .exit)) ⌝ }
 {
     let from = (m.node - 1) as usize * Bytes::REGION.0 as usize;
     let to = from + Bytes::REGION.0 as usize;
@@ -68,14 +71,15 @@ pub fn looked(
     node: u8,
     own: Node,
     x: Reader,
-    held: [Words; 17],
+    held: [Words; NODES],
     t: Stamp,
     clock: u32,
     store: &mut [u16],
     plaques: &[u8],
 ) -> Seated
     requires { ⌜ Seatable full node own x held (now store) (now plaques) × (isStamp t ≡ true) ⌝ }
-    ensures { λ r. ⌜ Seats full (λ g. looking full g node t clock) node own x held (now (store .entry)) (now (plaques .entry)) r (now (store .exit)) (now (plaques .entry)) ⌝ }
+    ensures { λ r. ⌜ Seats full (λ g. looking full g node t clock) node own x held (now (store .entry)) (now (plaques .entry)) r
+        (now (store .exit)) (now (plaques .entry)) ⌝ }
 {
     if is_quiet(x, clock) {
         return Seated {
@@ -102,8 +106,8 @@ pub fn looked(
 
 // An accepted command for the gateway itself.
 pub fn governed(
-    nodes: [Node; 17],
-    held: [Words; 17],
+    nodes: [Node; NODES],
+    held: [Words; NODES],
     name: Name,
     t: Stamp,
     kind: Kind,
@@ -112,9 +116,10 @@ pub fn governed(
     store: &mut [u16],
 ) -> Housed
     requires { ⌜ Houseable full nodes held name (now store) × (isStamp t ≡ true) × ToldOf full kind m (now words) ⌝ }
-    ensures { λ r. ⌜ Houses full (λ g. heeding full g t kind (loadOf full m (now (words .entry)))) nodes held name (now (store .entry)) r (now (store .exit)) ⌝ }
+    ensures { λ r. ⌜ Houses full (λ g. heeding full g t kind (loadOf full m (now (words .entry)))) nodes held name (now (store .entry)) r
+        (now (store .exit)) ⌝ }
 {
-    let own = nodes[16];
+    let own = nodes[READERS];
     let mut answer = [0u16; Words::PACKET.0 as usize];
     let d = govern(own.instance, name, t, kind, m, words, &mut answer);
     house(nodes, held, name, d, &answer, store)

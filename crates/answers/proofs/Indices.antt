@@ -1,15 +1,8 @@
 -- Where readers and nodes stand in the state's arrays, and what stands there.
 -- Assumes nothing.
-use Prim.Native.Nat.{ℕ, _-_, _≤_, _<_}
-use mathlib.Core.Path.{_≡_, refl, sym, ap, _∙_}
-use mathlib.Core.Bool.{Bool, true, false, cond}
-use mathlib.Core.List.{[]}
-use native.Mathlib.Omega.{arith}
-use lib.ListN.{getD}
-use Rattle.meaning.specs.Bench.{full, isReader}
-use Rattle.state.specs.State.{freshReader}
-use Rattle.state.specs.Machine.{Machine}
-use Rattle.state.specs.Consistent.{unfit}
+use Rattle.units.proofs.Common.{sym, _∙_, _≡_, refl, ap, true, false, Bool, cond, [], ℕ, _≤_, _-_, _<_, arith, getD}
+use Rattle.meaning.proofs.Terms.{full, isReader}
+use Rattle.state.proofs.Terms.{freshReader, Machine, unfit}
 use Rattle.state.specs.declared.reader.Reader.{Reader}
 use Rattle.state.proofs.Lists.{getD-any}
 use Rattle.promise.proofs.Parts.{parts}

@@ -1,14 +1,8 @@
 -- From a promise of the meaning's outcome to that of what a function returns.
 -- Assumes nothing.
-use Prim.Native.Nat.{ℕ}
-use mathlib.Core.Path.{_≡_, sym, subst}
-use mathlib.Core.List.{List}
-use borrow.Author.Tests.{eq-eqb}
-use Rattle.units.proofs.Choice.{yes-cond}
-use Rattle.meaning.specs.Bench.{Bench}
-use Rattle.meaning.specs.Call.{Call, Said, Outcome, step}
-use Rattle.state.specs.Machine.{Machine, machine, meaning}
-use Rattle.state.specs.Consistent.{unfit}
+use Rattle.units.proofs.Common.{sym, _≡_, subst, List, ℕ, eq-eqb, yes-cond}
+use Rattle.meaning.proofs.Terms.{Bench, Call, Said, Outcome, step}
+use Rattle.state.proofs.Terms.{Machine, machine, meaning, unfit}
 use Rattle.state.specs.declared.reader.Reader.{Reader}
 use Rattle.state.specs.declared.State.{State}
 use Rattle.promise.specs.Obeyed.{spoken, Does, expected, Obeyed}

@@ -1,21 +1,12 @@
 -- A response that may be said is written whole, and is a well-formed response of its node.
 -- Assumes nothing.
-use Prim.Native.Nat.{ℕ, _≤_, _<_}
-use mathlib.Core.Path.{_≡_, refl, sym, ap, _∙_}
-use mathlib.Core.Bool.{true, false}
-use mathlib.Core.List.{List}
-use native.Mathlib.Omega.{arith}
-use lib.Dec.{ltb}
-use lib.ListN.{length, take}
-use lib.Seq.{take-at}
-use borrow.Author.Tests.{eq-eqb, ltb-false, le-ltb}
-use Rattle.units.specs.Stamp.{isStamp}
+use Rattle.units.proofs.Common.{sym, _∙_, _≡_, refl, ap, true, false, List, ℕ, _≤_, _<_, arith, ltb, length, take, take-at, eq-eqb, le-ltb}
+use Rattle.units.proofs.Common.{ltb-false, isStamp, yes-cond, no-or, or-false}
 use Rattle.units.specs.declared.Form.the-variants.{Register}
 use Rattle.units.specs.declared.stamp.Stamp.{Stamp}
-use Rattle.units.proofs.Choice.{yes-cond, no-or, or-false}
-use Rattle.meaning.specs.Bench.{full, isNode}
-use Rattle.meaning.specs.Packet.{overall, writtenOutput}
-use Rattle.meaning.specs.Response.{amountWrong, errorWrong, respondRefusal, responseBody, bears, shown, shownCount, responseWords, responseOutput, wellFormed}
+use Rattle.meaning.proofs.Terms.{full, isNode, overall, writtenOutput, amountWrong, errorWrong, responseBody, bears, shown, shownCount}
+use Rattle.meaning.proofs.Terms.{responseWords, responseOutput, wellFormed}
+use Rattle.meaning.specs.Response.{respondRefusal}
 use Rattle.meaning.specs.declared.packet.Response.{Response}
 use Rattle.meaning.proofs.ResponseLaws.{count-responded, writes, read-responded}
 use Rattle.lists.proofs.Answers.{read-formed}
@@ -42,9 +33,11 @@ module _ (r : Response) (bs : List ℕ) (room : ℕ) (a : Sayable full r (length
   formed : r .echo < 256 → r .node < 256 → wellFormed full (r .node) (responseBody r bs) ≡ true
   unfolding responseWords shown bears
   formed e n =
-      read-formed full (r .node) (responseBody r bs) r (record { 0 = length bs }) (read-responded full Register r bs room e n accepted) ∙ eq-eqb (r .node) (r .node) refl
+      read-formed full (r .node) (responseBody r bs) r (record { 0 = length bs }) (read-responded full Register r bs room e n accepted) ∙
+      eq-eqb (r .node) (r .node) refl
 
-  pub says : r .echo < 256 → r .node < 256 → (out out′ : List ℕ) → length out ≡ room → length out′ ≡ room → out′ ≡ responseOutput full Register r bs out
+  pub says : r .echo < 256 → r .node < 256 → (out out′ : List ℕ) → length out ≡ room → length out′ ≡ room → out′ ≡ responseOutput full
+      Register r bs out
       → (k : ℕ) → k ≡ overall (length bs) → Says full r bs k out′
   unfolding responseOutput writtenOutput responseWords shown bears shownCount
   says e n out out′ l l′ w k c =

@@ -1,23 +1,15 @@
 -- A packet that is accepted: it keeps the limits that the code rests on, and what its own node promises of it, a reader's or the gateway's,
 -- is promised of the meaning's step.
 -- Assumes nothing.
-use Prim.Native.Nat.{ℕ}
-use mathlib.Core.Path.{_≡_, ap}
-use mathlib.Core.Bool.{true}
-use mathlib.Core.List.{List}
-use native.Mathlib.Omega.{arith}
+use Rattle.units.proofs.Common.{_≡_, ap, true, List, ℕ, arith}
 use Rattle.units.specs.declared.Words.{Words}
 use Rattle.units.specs.declared.Form.the-variants.{Register}
 use Rattle.units.specs.declared.stamp.Stamp.{Stamp}
-use Rattle.meaning.specs.Bench.{full, hub, isReader}
-use Rattle.meaning.specs.Gateway.{Gateway}
-use Rattle.meaning.specs.Command.{commandOf, commandData}
-use Rattle.meaning.specs.Call.{command, commandIn, named, step}
+use Rattle.meaning.proofs.Terms.{full, hub, isReader, Gateway, commandOf, commandData, command, commandIn, named, step}
 use Rattle.meaning.specs.declared.table.Kind.{Kind}
 use Rattle.meaning.specs.declared.packet.Command.{Command}
 use Rattle.demands.specs.Sound.{full-sound}
-use Rattle.state.specs.Machine.{Machine, machine, meaning}
-use Rattle.state.specs.Consistent.{unfit}
+use Rattle.state.proofs.Terms.{Machine, machine, meaning, unfit}
 use Rattle.state.specs.declared.node.Node.{Node}
 use Rattle.state.specs.declared.reader.Reader.{Reader}
 use Rattle.state.specs.declared.Name.{Name}

@@ -1,23 +1,14 @@
 -- In a night no answer is pending before a command, so that the answer handed over after it is this command's own.
 -- Assumes nothing.
-use Prim.Native.Nat.{ℕ}
-use mathlib.Core.Path.{_≡_, refl, sym, ap, _∙_, subst}
-use mathlib.Core.List.{List, [], _∷_, _++_}
-use native.Mathlib.Omega.{arith}
-use lib.Dec.{eqb}
-use lib.ListN.{drop}
-use borrow.Author.Tests.{eq-eqb, ne-eqb}
+use Rattle.units.proofs.Common.{sym, _∙_, _≡_, refl, ap, subst, List, [], _∷_, _++_, ℕ, arith, eqb, drop, eq-eqb, ne-eqb, no-cond}
 use Rattle.units.specs.declared.stamp.Stamp.{Stamp}
 use Rattle.units.specs.declared.Form.the-variants.{Register}
-use Rattle.units.proofs.Choice.{no-cond}
-use Rattle.meaning.specs.Bench.{Bench}
-use Rattle.meaning.specs.Gateway.{Node, Gateway, fresh, put, setNode, taken}
-use Rattle.meaning.specs.Call.{Call, command, arrive, acknowledge, judged, atReader, atHub, Whom, named, whom, Try, lifted, heeded, tried, Said, refused, answered, queued, Outcome, step}
+use Rattle.meaning.proofs.Terms.{Bench, Node, Gateway, fresh, put, setNode, taken, Call, command, arrive, acknowledge, judged, atReader}
+use Rattle.meaning.proofs.Terms.{atHub, Whom, named, whom, Try, lifted, heeded, tried, Said, refused, answered, queued, Outcome, step}
 use Rattle.demands.proofs.Local.{cond-all}
 use Rattle.listing.specs.Records.{plaqueNode, plaqueId, plaqueBytes}
 use Rattle.demands.specs.Counts.{answerOf}
-use Rattle.state.specs.Machine.{Machine, meaning}
-use Rattle.state.specs.Consistent.{unfit}
+use Rattle.state.proofs.Terms.{Machine, meaning, unfit}
 use Rattle.promise.specs.Obeyed.{Does}
 use Rattle.promise.proofs.Steps.{acknowledge-0}
 use Rattle.text.specs.Text.{wordsLine}

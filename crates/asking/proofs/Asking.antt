@@ -1,26 +1,16 @@
 -- A command's turn, by what was said of it; and an answer that waits on a consistent machine is handed over.
 -- Assumes nothing.
-use Prim.Native.Nat.{ℕ, _+_, _-_, _≤_, _<_}
-use mathlib.Core.Path.{_≡_, refl, sym, ap, _∙_, subst}
-use mathlib.Core.Bool.{true}
-use mathlib.Core.List.{List, [], _∷_}
-use native.Mathlib.Omega.{arith}
-use lib.Dec.{leb}
-use lib.ListN.{length, getD, set}
-use lib.Seq.{getD-set-same, set-set}
-use borrow.Author.Tests.{eq-eqb, le-leb}
+use Rattle.units.proofs.Common.{sym, _∙_, _≡_, refl, ap, subst, true, List, [], _∷_, ℕ, _≤_, _-_, _+_, _<_, arith, leb, length, getD, set}
+use Rattle.units.proofs.Common.{getD-set-same, eq-eqb, le-leb}
+use lib.Seq.{set-set}
 use Rattle.units.specs.declared.Words.{Words}
 use Rattle.units.specs.declared.stamp.Stamp.{Stamp}
 use Rattle.units.specs.declared.Form.the-variants.{Register}
-use Rattle.meaning.specs.Bench.{Bench, full, isReader}
-use Rattle.meaning.specs.Response.{bears}
-use Rattle.meaning.specs.Gateway.{Gateway}
-use Rattle.meaning.specs.Call.{Call, command, collect, acknowledge, named, Result, handed, Said, refused, answered, queued, Outcome, step}
+use Rattle.meaning.proofs.Terms.{Bench, full, isReader, bears, Gateway, Call, command, collect, acknowledge, named, Result, handed, Said}
+use Rattle.meaning.proofs.Terms.{refused, answered, queued, Outcome, step}
 use Rattle.demands.specs.Sound.{Sound}
 use Rattle.demands.proofs.Numbers.{refused-numbers}
-use Rattle.state.specs.State.{freshNode}
-use Rattle.state.specs.Machine.{Machine, machine, meaning, nodeSlot}
-use Rattle.state.specs.Consistent.{unfit}
+use Rattle.state.proofs.Terms.{freshNode, Machine, machine, meaning, nodeSlot, unfit}
 use Rattle.state.specs.declared.node.Node.{Node}
 use Rattle.state.specs.declared.State.{State}
 use Rattle.state.proofs.Read.{blank, node-any}

@@ -1,18 +1,10 @@
 -- Where an answer is queued, it was due from the node that the call names, and waits there; where none is, none comes to be pending.
 -- Assumes nothing.
-use Prim.Native.Nat.{ℕ, _≤_}
-use mathlib.Core.Path.{_≡_, refl, sym, ap, _∙_, subst}
-use mathlib.Core.Bool.{Bool, true, false, cond, _||_}
-use mathlib.Core.List.{List, [], _∷_, _++_}
-use native.Mathlib.Omega.{arith}
-use lib.Dec.{eqb}
-use lib.ListN.{length, drop, length-append}
-use borrow.Author.Tests.{eq-eqb, eqb-false}
-use Rattle.units.proofs.Choice.{yes-or, yes-cond}
-use Rattle.meaning.specs.Bench.{Bench, hub, isReader, isNode}
-use Rattle.meaning.specs.Gateway.{Node, Gateway, put, setNode, setReader, joined, join, taken, Sweep, none, clearing, resetting, emptied, swept}
-use Rattle.meaning.specs.Room.{fits}
-use Rattle.meaning.specs.Call.{Call, Local, Try, Whom, named, lifted, fromDesk, heeded, judged, tried, Said, queued, roomed, settled, step}
+use Rattle.units.proofs.Common.{sym, _∙_, _≡_, refl, ap, subst, true, false, Bool, cond, _||_, List, [], _∷_, _++_, ℕ, _≤_, arith, eqb}
+use Rattle.units.proofs.Common.{length, drop, length-append, eq-eqb, eqb-false, yes-or, yes-cond}
+use Rattle.meaning.proofs.Terms.{Bench, hub, isReader, isNode, Node, Gateway, put, setNode, setReader, joined, join, taken, Sweep, none}
+use Rattle.meaning.proofs.Terms.{clearing, resetting, emptied, swept, fits, Call, Local, Try, Whom, named, lifted, fromDesk, heeded, judged}
+use Rattle.meaning.proofs.Terms.{tried, Said, queued, roomed, settled, step}
 use Rattle.demands.proofs.Aim.{Aim, aim}
 use Rattle.demands.proofs.Local.{cond-all}
 use Rattle.asking.specs.Ask.{NonePending}
@@ -25,7 +17,8 @@ swept-none clearing x e = ap (λ (ws : List (List ℕ)). (emptied x ws) .pending
 swept-none resetting x e = ap (λ (ws : List (List ℕ)). (emptied x ws) .pending) e ∙ e
 
 -- .. where each other node has none, and node n is set to one that has none
-pub set-none : (n : ℕ) (x : Node) (g : Gateway) → x .pending ≡ [] → ((k : ℕ) → (k ≡ n → ⊥) → g .nodes k .pending ≡ []) → NonePending (setNode n x g)
+pub set-none : (n : ℕ) (x : Node) (g : Gateway) → x .pending ≡ [] → ((k : ℕ) → (k ≡ n → ⊥) → g .nodes k .pending ≡ []) → NonePending
+    (setNode n x g)
 unfolding put
 set-none n x g e z k = go (eqb k n) refl
   where
@@ -40,7 +33,8 @@ TriedT b c g (Try.refuse k) = Unit
 TriedT b c g (Try.give r h) = NonePending g → NonePending h
 TriedT b c g (Try.due n h w) = (n ≡ named c) × (isNode b n ≡ true) × (NonePending g → NonePending h)
 
-tried-lifted : {A : Type 0} (b : Bench) (c : Call) (into : A → Gateway → Gateway) (n : ℕ) (g : Gateway) (l : Local A) → n ≡ named c → isNode b n ≡ true
+tried-lifted : {A : Type 0} (b : Bench) (c : Call) (into : A → Gateway → Gateway) (n : ℕ) (g : Gateway) (l : Local A) → n ≡ named c → isNode
+    b n ≡ true
     → ((a : A) → NonePending g → NonePending (into a g)) → TriedT b c g (lifted into n g l)
 unfolding lifted TriedT taken
 tried-lifted b c into n g (Local.refuse k) e is z = tt
@@ -74,11 +68,13 @@ pub record Queues (b : Bench) (g : Gateway) (c : Call) : Type 0 where
   pub only : NonePending g → NonePending effect
 
 module _ (b : Bench) (g : Gateway) (c : Call) (q : (step b g c) .said ≡ queued) where
-  queues-roomed : (h : Gateway) (w : List ℕ) → tried b g c ≡ Try.due (named c) h w → isNode b (named c) ≡ true → (NonePending g → NonePending h)
+  queues-roomed : (h : Gateway) (w : List ℕ) → tried b g c ≡ Try.due (named c) h w → isNode b (named c) ≡ true →
+      (NonePending g → NonePending h)
       → (t : Bool) → fits b (named c) (join (named c) w h) ≡ t → Queues b g c
   unfolding step settled roomed
   queues-roomed h w e is z true f = record { effect = h; answer = w; due = e; next = rw e (rw f); node = is; only = z }
-  queues-roomed h w e is z false f = absurd (let x : queued ≡ Said.refused 13 = sym q ∙ rw e (rw f) in let y : _≡_ {A = ℕ} 0 1 = cc in omega arith)
+  queues-roomed h w e is z false f = absurd (let x : queued ≡ Said.refused 13 = sym q ∙ rw e (rw f) in let y : _≡_ {A = ℕ} 0 1 = cc in omega
+      arith)
 
   queues-tried : (t : Try) → tried b g c ≡ t → TriedT b c g t → Queues b g c
   unfolding step settled TriedT
@@ -105,7 +101,8 @@ pub step-none : (b : Bench) (g : Gateway) (c : Call) → ((step b g c) .said ≡
 unfolding step settled roomed TriedT
 step-none b g c q z = go (tried b g c) (tried-is b g c) q
   where
-    due : (n : ℕ) (h : Gateway) (w : List ℕ) (t : Bool) → ((roomed t g (join n w h)) .said ≡ queued → ⊥) → NonePending ((roomed t g (join n w h)) .next)
+    due : (n : ℕ) (h : Gateway) (w : List ℕ) (t : Bool) → ((roomed t g (join n w h)) .said ≡ queued → ⊥) → NonePending
+        ((roomed t g (join n w h)) .next)
     due n h w true f = absurd (f refl)
     due n h w false f = z
 

@@ -16,6 +16,8 @@ use state::reader::Reader;
 use store::take;
 use text::put_words;
 use units::Form;
+use units::NODES;
+use units::READERS;
 use units::Words;
 use units::stamp::Stamp;
 ghost use mathlib.Core.Path.{_≡_};
@@ -29,7 +31,7 @@ ghost use Rattle.asking.specs.Ask.{longestLine, Accepts, HandsOver, Seat
 // A node and the words that all nodes hold, without its oldest answer; and the place in the output after that answer's line.
 pub struct Handed {
     pub node: Node,
-    pub held: [Words; 17],
+    pub held: [Words; NODES],
     pub at: usize,
 }
 
@@ -37,7 +39,7 @@ pub struct Handed {
 fn hand_over(
     i: usize,
     own: Node,
-    held: [Words; 17],
+    held: [Words; NODES],
     store: &mut [u16],
     out: &mut [u8],
     to: usize,
@@ -66,7 +68,7 @@ pub struct ReaderTurn {
 pub fn reader_turn(
     own: Node,
     x: Reader,
-    held: [Words; 17],
+    held: [Words; NODES],
     t: Stamp,
     kind: Kind,
     m: Command,
@@ -121,8 +123,8 @@ pub struct HubTurn {
 
 // A command for the gateway itself.
 pub fn hub_turn(
-    nodes: [Node; 17],
-    held: [Words; 17],
+    nodes: [Node; NODES],
+    held: [Words; NODES],
     name: Name,
     t: Stamp,
     kind: Kind,
@@ -147,13 +149,13 @@ pub fn hub_turn(
         }
         Reply::Queued => {
             let mut ns = house.nodes;
-            let own = ns[16];
+            let own = ns[READERS];
             let more = house.held;
             let title = house.name;
-            let h = hand_over(16, own, more, store, out, to);
+            let h = hand_over(READERS, own, more, store, out, to);
             let after = h.node;
             let less = h.held;
-            ns[16] = after;
+            ns[READERS] = after;
             let left = Housed {
                 nodes: ns,
                 held: less,

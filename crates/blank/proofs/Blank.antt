@@ -1,20 +1,12 @@
 -- A fresh state, with the store that making it zeroed and plaque memory all 0, is consistent and means a blank gateway.
 -- Assumes nothing.
-use Prim.Native.Nat.{ℕ, zero, suc, _-_, _*_, min}
-use mathlib.Core.Path.{_≡_, refl, ap, _∙_, fun-ext}
-use mathlib.Core.Bool.{Bool, true, false, cond}
-use mathlib.Core.List.{List, [], _∷_}
-use native.Mathlib.Omega.{arith}
-use lib.Dec.{leb}
-use lib.ListN.{length, take, drop, replicate, length-replicate}
-use lib.Seq.{slice}
-use borrow.Author.Tests.{leb-false, le-leb}
+use Rattle.units.proofs.Common.{_∙_, _≡_, refl, ap, fun-ext, true, false, Bool, cond, List, [], _∷_, ℕ, _-_, suc, _*_, zero, min, arith}
+use Rattle.units.proofs.Common.{leb, length, drop, take, replicate, length-replicate, slice, le-leb}
+use borrow.Author.Tests.{leb-false}
 use Rattle.units.proofs.Choice.{and-false}
-use Rattle.meaning.specs.Bench.{full, isReader}
-use Rattle.meaning.specs.Gateway.{fresh}
+use Rattle.meaning.proofs.Terms.{full, isReader, fresh}
 use Rattle.state.specs.State.{freshState}
-use Rattle.state.specs.Machine.{machine, meaning, regionOf}
-use Rattle.state.specs.Consistent.{unfit}
+use Rattle.state.proofs.Terms.{machine, meaning, regionOf, unfit}
 use Rattle.state.specs.declared.State.{State}
 use Rattle.promise.specs.Runs.{zeroStore, freshMachine}
 use Rattle.promise.proofs.Tables.{reader-range}

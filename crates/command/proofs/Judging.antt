@@ -1,12 +1,9 @@
 -- A packet judged with its stamp, part by part.
 -- Assumes nothing.
-use Prim.Native.Nat.{ℕ}
-use mathlib.Core.Path.{_≡_, ap}
-use mathlib.Core.List.{List}
+use Rattle.units.proofs.Common.{_≡_, ap, List, ℕ}
 use Rattle.units.specs.declared.Form.{Form}
 use Rattle.units.specs.declared.stamp.Stamp.{Stamp}
-use Rattle.meaning.specs.Bench.{Bench}
-use Rattle.meaning.specs.Call.{command, judged, commandIn, kindIn}
+use Rattle.meaning.proofs.Terms.{Bench, command, judged, commandIn, kindIn}
 use Rattle.command.specs.Judged.{judgedCommand}
 use Rattle.command.specs.declared.Judged.{Judged}
 

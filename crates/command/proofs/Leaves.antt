@@ -1,21 +1,15 @@
 -- What the small tests of the reader and the writer rest on.
 -- Assumes nothing.
-use Prim.Native.Nat.{ℕ}
-use mathlib.Core.Path.{_≡_, refl, sym, ap, _∙_}
-use mathlib.Core.Bool.{Bool, true, false, not}
-use mathlib.Core.List.{List, [], _∷_}
-use lib.Dec.{T, eqb, ltb, leb}
+use Rattle.units.proofs.Common.{sym, _∙_, _≡_, refl, ap, true, false, Bool, not, List, [], _∷_, ℕ, eqb, leb, ltb, T, eq-eqb, ne-eqb}
+use Rattle.units.proofs.Common.{leb-true, le-ltb, lt-ltb, keys}
 use types.Run.{OneOf}
 use denote.Enum.Declared.{tagOf}
-use borrow.Author.Tests.{eq-eqb, ne-eqb, lt-ltb, le-ltb, leb-true, leb-false}
+use borrow.Author.Tests.{leb-false}
 use Rattle.units.specs.declared.Form.{Form}
 use Rattle.units.specs.declared.stamp.Stamp.{Stamp}
-use Rattle.units.proofs.Arms.{keys}
-use Rattle.meaning.specs.Refusal.{refusal, _orElse_}
-use Rattle.meaning.specs.Bench.{full}
-use Rattle.meaning.specs.Table.{rowOf}
-use Rattle.meaning.specs.Command.{bodyOf, commandOf, frameDoubts, rowDoubts, commandDoubts}
-use Rattle.meaning.specs.Call.{command, judged, commandIn, kindIn}
+use Rattle.meaning.proofs.Terms.{refusal, _orElse_, full, rowOf, commandOf, frameDoubts, rowDoubts, commandDoubts, command, judged}
+use Rattle.meaning.proofs.Terms.{commandIn, kindIn}
+use Rattle.meaning.specs.Command.{bodyOf}
 use Rattle.meaning.specs.declared.table.Row.{Row}
 use Rattle.command.specs.Judged.{judgedCommand}
 use Rattle.meaning.specs.declared.packet.Command.{Command}
@@ -44,8 +38,7 @@ ltb-not-leb a b = by (leb b a) refl
 pub not-continuous : (P : Kind → Type 0) (k : Kind) → OneOf (0 ∷ 2 ∷ 3 ∷ 4 ∷ []) (tagOf the-type k)
     → ((p : OnPlaque) → P (Plaque p)) → P ResetReader → ((g : OfGateway) → P (Gateway g)) → P Unknown → P k
 not-continuous P (Plaque p) e a b g d = a p
-not-continuous P Continuous e a b g d =
-    absurd (keys (λ (x : ℕ). T (not (eqb x 1))) (0 ∷ 2 ∷ 3 ∷ 4 ∷ []) 1 e (tt, (tt, (tt, (tt, tt)))))
+not-continuous P Continuous e a b g d = absurd (keys (λ (x : ℕ). T (not (eqb x 1))) (0 ∷ 2 ∷ 3 ∷ 4 ∷ []) 1 e (tt, (tt, (tt, (tt, tt)))))
 not-continuous P ResetReader e a b g d = b
 not-continuous P (Gateway p) e a b g d = g p
 not-continuous P Unknown e a b g d = d
@@ -64,7 +57,8 @@ module _ (f : Form) (ws : List ℕ) {body : List ℕ} {m : Command} (b : body �
     refusal-is {n} q = q ∙ rw (r, e, b)
 
 -- as it is handed on
-pub judged-is : (t : Stamp) (f : Form) (ws : List ℕ) {n : ℕ} {k : Kind} {m : Command} → n ≡ judged full (command t f ws) → k ≡ kindIn full f ws
+pub judged-is : (t : Stamp) (f : Form) (ws : List ℕ) {n : ℕ} {k : Kind} {m : Command} → n ≡ judged full (command t f ws) → k ≡ kindIn full f
+    ws
     → m ≡ commandIn f ws → record { refusal = n; kind = k; what = m } ≡ judgedCommand full t f ws
 unfolding judgedCommand
 judged-is t f ws p q r = rw (p, q, r)

@@ -19,11 +19,16 @@ use units::packing::lsb;
 use units::packing::msb;
 use units::stamp::Stamp;
 ghost use mathlib.Core.Path.{_≡_};
+ghost use mathlib.Core.Bool.{not};
+ghost use lib.Dec.{eqb};
+ghost use Rattle.units.specs.Word.{lsb, msb};
+ghost use Rattle.meaning.specs.Packet.{wordNo};
 ghost use Rattle.meaning.specs.Refusal.{refusal, _orElse_};
 ghost use Rattle.meaning.specs.Bench.{full};
 ghost use Rattle.meaning.specs.Table.{rowOf};
 ghost use Rattle.meaning.specs.declared.table.Kind.the-variants.{Continuous};
-ghost use Rattle.meaning.specs.Command.{bodyOf, commandOf, headWrong, headNodeWrong, frameDoubts, whoDoubts, outside, delayWrong, rangeWrong, limitDoubts, stray, unusedDoubts, rowDoubts, readCommand, commandData};
+ghost use Rattle.meaning.specs.Command.{bodyOf, commandOf, headWrong, headNodeWrong, frameDoubts, whoDoubts, outside, delayWrong};
+ghost use Rattle.meaning.specs.Command.{rangeWrong, limitDoubts, stray, unusedDoubts, rowDoubts, readCommand, commandData};
 ghost use Rattle.command.specs.Judged.{judgedCommand};
 
 // The words from Overall Length on.
@@ -59,13 +64,27 @@ fn head_wrong(words: &[u16], form: Form) -> bool
     }
 }
 
+// 5, of word 02
+fn mark_wrong(body: &[u16]) -> bool
+    ensures { λ r. ⌜ r ≡ not (eqb (msb (wordNo 2 (now (body .entry)))) 0xAA) ⌝ }
+{
+    msb(word_no(body, 2)) != 0xAA
+}
+
+// 5, of word 03
+fn pad_wrong(body: &[u16]) -> bool
+    ensures { λ r. ⌜ r ≡ not (eqb (msb (wordNo 3 (now (body .entry)))) 0) ⌝ }
+{
+    msb(word_no(body, 3)) != 0
+}
+
 // 6
-fn head_node_wrong(words: &[u16], form: Form, node: u8) -> bool
-    ensures { λ r. ⌜ r ≡ headNodeWrong form (now (words .entry)) node ⌝ }
+fn head_node_wrong(words: &[u16], form: Form, body: &[u16]) -> bool
+    ensures { λ r. ⌜ r ≡ headNodeWrong form (now (words .entry)) (lsb (wordNo 3 (now (body .entry)))) ⌝ }
 {
     match form {
         Form::Register => false,
-        Form::Framed => lsb(word_no(words, 1)) != node,
+        Form::Framed => lsb(word_no(words, 1)) != lsb(word_no(body, 3)),
     }
 }
 
@@ -79,13 +98,13 @@ fn frame_refusal(words: &[u16], form: Form, body: &[u16]) -> u8
     if head_wrong(words, form) {
         return 5;
     }
-    if msb(word_no(body, 2)) != 0xAA {
+    if mark_wrong(body) {
         return 5;
     }
-    if msb(word_no(body, 3)) != 0 {
+    if pad_wrong(body) {
         return 5;
     }
-    if head_node_wrong(words, form, lsb(word_no(body, 3))) {
+    if head_node_wrong(words, form, body) {
         return 6;
     }
     0
@@ -231,7 +250,8 @@ fn row_refusal(row: Row, m: Command, body: &[u16]) -> u8
 
 // 4 to 11, of a packet whose body says m, with m's row
 fn packet_refusal(words: &[u16], form: Form, body: &[u16], row: Row, m: Command) -> u8
-    ensures { λ r. ⌜ r ≡ refusal (frameDoubts form (now (words .entry)) (now (body .entry)) orElse rowDoubts full row m (now (body .entry))) ⌝ }
+    ensures { λ r. ⌜ r ≡ refusal (frameDoubts form (now (words .entry)) (now (body .entry)) orElse rowDoubts full row m
+        (now (body .entry))) ⌝ }
 {
     let frame = frame_refusal(words, form, body);
     if frame != 0 {
@@ -240,7 +260,8 @@ fn packet_refusal(words: &[u16], form: Form, body: &[u16], row: Row, m: Command)
     row_refusal(row, m, body)
 }
 
-// A command packet with its stamp: the refusal (3 to 11), 0 where it is accepted; what it says, and what its row in the table says that it does.
+// A command packet with its stamp: the refusal (3 to 11), 0 where it is accepted; what it says, and what its row in the table says that it
+// does.
 pub struct Judged {
     pub refusal: u8,
     pub kind: Kind,

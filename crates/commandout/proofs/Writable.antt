@@ -1,14 +1,9 @@
 -- What is known of a command that is written: its words' count, and that they fit.
 -- Assumes nothing.
-use Prim.Native.Nat.{ℕ, _≤_}
-use mathlib.Core.Path.{_≡_, sym, ap, subst}
-use mathlib.Core.List.{List, _++_}
-use lib.ListN.{length, drop}
-use native.Mathlib.Omega.{arith}
+use Rattle.units.proofs.Common.{sym, _≡_, ap, subst, List, _++_, ℕ, _≤_, arith, length, drop}
 use Rattle.units.specs.declared.Form.{Form}
-use Rattle.meaning.specs.Bench.{Bench}
-use Rattle.meaning.specs.Table.{rowOf, carries, carried}
-use Rattle.meaning.specs.Command.{commandWords, headedCount, writeRefusal}
+use Rattle.meaning.proofs.Terms.{Bench, rowOf, carries, carried, headedCount}
+use Rattle.meaning.specs.Command.{commandWords, writeRefusal}
 use Rattle.meaning.specs.declared.table.Load.{Load}
 use Rattle.meaning.specs.declared.table.Load.the-variants.{Nothing, One, Size}
 use Rattle.meaning.specs.declared.packet.Command.{Command}
@@ -27,7 +22,8 @@ carries-le Nothing n h = omega arith
 carries-le One n h = omega arith
 carries-le Size n h = h
 
-pub writable : (b : Bench) (f : Form) (m : Command) (n room : ℕ) → m .size ≤ 65535 → writeRefusal b f m n room ≡ 0 → (headedCount f n ≤ room) × (n ≤ 65535)
+pub writable : (b : Bench) (f : Form) (m : Command) (n room : ℕ) → m .size ≤ 65535 → writeRefusal b f m n room ≡ 0 →
+    (headedCount f n ≤ room) × (n ≤ 65535)
 unfolding carried
 writable b f m n room h e =
     let w = L.writable b f m n room e in

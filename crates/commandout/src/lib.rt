@@ -70,7 +70,8 @@ fn write_refusal(form: Form, m: Command, amount: usize, room: usize) -> u8
 fn put_body(m: Command, bytes: &[u8], out: &mut [u16])
     requires { ⌜ overall (length (now bytes)) ≤ length (now out) ⌝ }
     requires { ⌜ length (now bytes) ≤ 65535 ⌝ }
-    ensures { λ _. ⌜ now (out .exit) ≡ commandBody m (now (bytes .entry)) ++ drop (overall (length (now (bytes .entry)))) (now (out .entry)) ⌝ }
+    ensures { λ _. ⌜ now (out .exit) ≡ commandBody m (now (bytes .entry)) ++ drop (overall (length (now (bytes .entry))))
+        (now (out .entry)) ⌝ }
 {
     out[0] = overall(Bytes(bytes.len() as u16)).0;
     out[1] = word(0xAA, m.command);
@@ -85,7 +86,8 @@ fn put_body(m: Command, bytes: &[u8], out: &mut [u16])
 fn put_words(form: Form, m: Command, bytes: &[u8], out: &mut [u16])
     requires { ⌜ headedCount form (length (now bytes)) ≤ length (now out) ⌝ }
     requires { ⌜ length (now bytes) ≤ 65535 ⌝ }
-    ensures { λ _. ⌜ now (out .exit) ≡ commandWords form m (now (bytes .entry)) ++ drop (length (commandWords form m (now (bytes .entry)))) (now (out .entry)) ⌝ }
+    ensures { λ _. ⌜ now (out .exit) ≡ commandWords form m (now (bytes .entry)) ++ drop
+        (length (commandWords form m (now (bytes .entry)))) (now (out .entry)) ⌝ }
 {
     match form {
         Form::Register => {

@@ -1,12 +1,6 @@
 -- A line has a byte at least: its line feed, or where it is the last and lacks it, one before it.
 -- Assumes nothing.
-use Prim.Native.Nat.{ℕ, suc, _≤_}
-use mathlib.Core.Path.{_≡_, refl}
-use mathlib.Core.Bool.{Bool, true, false, cond}
-use mathlib.Core.List.{List, [], _∷_}
-use native.Mathlib.Omega.{arith}
-use lib.Dec.{eqb}
-use lib.ListN.{length}
+use Rattle.units.proofs.Common.{_≡_, refl, true, false, Bool, cond, List, [], _∷_, ℕ, _≤_, suc, arith, eqb, length}
 use Rattle.dialog.specs.Fields.{before}
 use Rattle.dialog.specs.Dialog.{linesOf}
 

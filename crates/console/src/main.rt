@@ -16,7 +16,7 @@ ghost use lib.ListN.{length};
 ghost use Rattle.meaning.specs.Bench.{full};
 ghost use Rattle.state.specs.Machine.{machine};
 ghost use Rattle.state.specs.Consistent.{unfit};
-ghost use Rattle.conversation.specs.Conversation.{longestAnswer};
+ghost use Rattle.dialog.specs.Dialog.{longestAnswer};
 
 // A line that goes on is kept up to a byte more than the longest that is looked into, which shows that it is longer.
 const KEPT: usize = 4401;

@@ -1,30 +1,19 @@
 -- A conversation, line after line: what is written so far, and the replies to come.
 -- Assumes nothing.
-use Prim.Native.Nat.{ℕ, suc, _+_, _-_, _*_, _≤_, _<_}
-use mathlib.Core.Path.{_≡_, refl, sym, ap, _∙_}
-use mathlib.Core.Bool.{true≢false}
-use mathlib.Core.List.{List, [], _++_}
-use native.Mathlib.Omega.{arith}
-use native.Mathlib.Nat.{zero-add}
-use lib.ListN.{length, take, drop, length-append}
-use lib.Seq.{sets}
-use borrow.Author.Tests.{le-leb, lt-leb}
-use Rattle.units.proofs.Choice.{yes-cond, no-cond}
-use Rattle.meaning.specs.Bench.{full}
-use Rattle.meaning.specs.Gateway.{Gateway}
-use Rattle.demands.specs.Sound.{full-sound}
-use Rattle.state.specs.Machine.{Machine, meaning}
-use Rattle.state.specs.Consistent.{unfit}
+use Rattle.units.proofs.Common.{sym, _∙_, _≡_, refl, ap, true≢false, List, [], _++_, ℕ, _≤_, _-_, _+_, _<_, suc, _*_, zero-add, arith}
+use Rattle.units.proofs.Common.{length, drop, take, length-append, sets, le-leb, lt-leb, yes-cond, no-cond}
+use Rattle.meaning.proofs.Terms.{full, Gateway}
+use Rattle.state.proofs.Terms.{Machine, meaning, unfit}
 use Rattle.promise.proofs.Parts.{Parts, parts}
 use Rattle.text.proofs.Writing.{put-turn, put-done, put-length}
 use Rattle.listing.specs.Listing.{blank}
 use Rattle.dialog.specs.Spoken.{spoken}
-use Rattle.dialog.specs.Dialog.{linesOf, replyTo, replies, conversation}
+use Rattle.dialog.specs.Dialog.{longestAnswer, linesOf, replyTo, replies, conversation}
 use Rattle.gather.specs.Pieces.{lineIn}
 use Rattle.gather.proofs.Pieces.{lines-on, lines-end, line-part}
 use Rattle.talk.specs.Talk.{Plays}
-use Rattle.talk.proofs.Talking.{plays-fit, plays-means, plays-wrote}
-use Rattle.conversation.specs.Conversation.{longestAnswer, afterLines, Speaks, Converses}
+use Rattle.talk.proofs.Talking.{plays-after}
+use Rattle.conversation.specs.Conversation.{afterLines, Speaks, Converses}
 use Rattle.conversation.specs.declared.Text.{Text}
 
 -- the replies to the lines from a place on, and the gateway after them
@@ -64,8 +53,7 @@ pub record Along (input out₀ out : List ℕ) (m₀ : Machine) (at to : ℕ) (m
 
 pub along-start : {input out : List ℕ} {m : Machine} → unfit full m ≡ 0 → length (linesOf input) * longestAnswer ≤ length out
     → Along input out out m 0 0 m
-along-start {input} {out} {m} f h =
-    record { same = refl; sound = f; rest = refl; place = zero-add _; last = refl; room = omega (arith, h) }
+along-start {input} {out} {m} f h = record { same = refl; sound = f; rest = refl; place = zero-add _; last = refl; room = omega (arith, h) }
 
 module _ {input out₀ out : List ℕ} {m₀ : Machine} {at to : ℕ} {m : Machine} (a : Along input out₀ out m₀ at to m) where
   -- the lengths of what is lent
@@ -80,16 +68,17 @@ module _ {input out₀ out : List ℕ} {m₀ : Machine} {at to : ℕ} {m : Machi
       → Plays full m (take (end - at) (drop at input)) out to new to′ m′ → Along input out₀ new m₀ (end + 1) to′ m′
   along-turn {end} {new} {to′} {m′} h e p =
       let g : Gateway = meaning full m in
-      let w = plays-wrote full m (a .sound) p full-sound in
+      let w = p .wrote in
+      let (sound, means) = plays-after (a .sound) p in
       let t : List ℕ = replyTo full g (spoken (take (end - at) (drop at input))) .line in
       let more : List ℕ = toCome input (end + 1) (meaning full m′) in
       let n : length (linesOf (drop at input)) ≡ suc (length (linesOf (drop (end + 1) input))) =
       ap length (lines-on input at h) ∙ ap (λ (i : ℕ). suc (length (linesOf (drop (i + 1) input)))) (sym e) in
-      let k : toCome input at g ≡ t ++ more = come-on input at end g h e ∙ rw (plays-means full m (a .sound) p) in
-      let l : atEnd input at g ≡ atEnd input (end + 1) (meaning full m′) = end-on input at end g h e ∙ rw (plays-means full m (a .sound) p) in
+      let k : toCome input at g ≡ t ++ more = come-on input at end g h e ∙ rw means in
+      let l : atEnd input at g ≡ atEnd input (end + 1) (meaning full m′) = end-on input at end g h e ∙ rw means in
       record {
         same = put-length w ∙ a .same;
-        sound = plays-fit full m (a .sound) p;
+        sound = sound;
         rest = put-turn (toCome input at g) more w k (a .rest);
         place = omega (arith, ap length k ∙ length-append t more, w .next, a .place);
         last = sym l ∙ a .last;
@@ -109,11 +98,13 @@ module _ {input out₀ out : List ℕ} {m₀ : Machine} {at to : ℕ} {m : Machi
       }
 
 -- ---- a whole conversation
-pub conversed : {input old new : List ℕ} {at : ℕ} {m m′ : Machine} → meaning full m ≡ blank full → length (linesOf input) * longestAnswer ≤ length old
+pub conversed : {input old new : List ℕ} {at : ℕ} {m m′ : Machine} → meaning full m ≡ blank full → length (linesOf input) * longestAnswer ≤
+    length old
     → Speaks full m input old new at m′ → Converses input old new (Text.Written at)
 unfolding conversation
 conversed {input} {old} {new} {at} {m} from h s =
-    let e : replies full (meaning full m) (linesOf input) ≡ conversation input = ap (λ (g : Gateway). replies full g (linesOf input)) from in
+    let e : replies full (meaning full m) (linesOf input) ≡ conversation input = ap (λ (g : Gateway). replies full g (linesOf input))
+    from in
     let l = le-leb (length (linesOf input) * longestAnswer) (length old) h in
     record {
       says = ap Text.Written (s .wrote .next ∙ zero-add _ ∙ ap length e) ∙ sym (yes-cond Text.TooShort l);

@@ -1,18 +1,9 @@
 -- A line played at its own list, at its reader or at the gateway: its parts are taken out of a consistent machine, and put back.
 -- Assumes nothing.
-use Prim.Native.Nat.{ℕ, _+_, _-_, _≤_, _<_}
-use mathlib.Core.Path.{_≡_, refl, sym, ap, _∙_}
-use mathlib.Core.Bool.{true, cond}
-use mathlib.Core.List.{List}
-use native.Mathlib.Omega.{arith}
-use lib.ListN.{length, getD, set}
-use Rattle.units.specs.Packing.{onto}
-use Rattle.units.proofs.Choice.{yes-cond}
-use Rattle.units.proofs.PackingLaws.{length-onto}
-use Rattle.meaning.specs.Bench.{full, isReader, isNode}
-use Rattle.meaning.specs.Call.{Call, command, step}
-use Rattle.state.specs.Machine.{Machine, machine, meaning, nodeSlot}
-use Rattle.state.specs.Consistent.{unfit}
+use Rattle.units.proofs.Common.{sym, _∙_, _≡_, refl, ap, true, cond, List, ℕ, _≤_, _-_, _+_, _<_, arith, length, getD, set, onto, yes-cond}
+use Rattle.units.proofs.Common.{length-onto}
+use Rattle.meaning.proofs.Terms.{full, isReader, isNode, Call, command, step}
+use Rattle.state.proofs.Terms.{Machine, machine, meaning, nodeSlot, unfit}
 use Rattle.state.specs.declared.State.{State}
 use Rattle.state.proofs.Read.{blank}
 use Rattle.promise.specs.Obeyed.{spoken}
@@ -32,28 +23,9 @@ use Rattle.talk.specs.Talk.{Plays}
 use Rattle.talk.specs.Aim.{wanted, TellsAt}
 use Rattle.talk.specs.declared.aim.Want.{Want}
 use Rattle.talk.specs.declared.ListTold.{ListTold}
-use Rattle.lines.specs.declared.Heard.{Heard}
-use Rattle.lines.specs.Heard.{heardOf, wordsIn, idIn, bytesIn}
-use Rattle.talk.proofs.Aiming.{Buffered}
-use Rattle.talk.proofs.Talking.{plays-call, plays-tells}
+use Rattle.talk.proofs.Talking.{plays-call}
 
--- ---- the buffers after a line was read
-pub buffered : (line words₀ id₀ bytes₀ : List ℕ) {h : Heard} {words id bytes : List ℕ} → length words₀ ≡ 256 → length id₀ ≡ 16
-    → length bytes₀ ≡ 2047 → h ≡ heardOf (D.spoken line) → words ≡ onto (wordsIn (D.spoken line)) words₀ → id ≡ onto (idIn (D.spoken line)) id₀
-    → bytes ≡ onto (bytesIn (D.spoken line)) bytes₀ → Buffered line h words id bytes
-buffered line words₀ id₀ bytes₀ k l n e f g h = record {
-  said = e;
-  words₀ = words₀;
-  id₀ = id₀;
-  bytes₀ = bytes₀;
-  room-words = k;
-  room-id = l;
-  room-bytes = n;
-  words-are = f;
-  id-is = g;
-  bytes-are = h;
-}
-
+-- ---- a buffer after a line was read
 pub onto-long : (xs old : List ℕ) {new : List ℕ} {n : ℕ} → new ≡ onto xs old → length old ≡ n → length new ≡ n
 onto-long xs old e h = ap length e ∙ length-onto xs old ∙ h
 
@@ -80,13 +52,16 @@ module _ (m : Machine) (fit : unfit full m ≡ 0) where
 
     pub list-plays : {line old new store′ : List ℕ} {to : ℕ} (w : Want) (r : ListTold) → D.spoken line ≡ D.call (wanted n w)
         → TellsAt full w n i (getD (m .state .nodes) i blank) (m .state .held) (m .store) store′ old to new r
-        → Plays full m line old to new (r .at) (machine (withLists (m .state) (set (m .state .nodes) i (r .node)) (r .held)) store′ (m .memory))
-    list-plays w r s t = plays-tells full m fit (wanted n w) s (t is slot-is (m .state) (m .memory) slot fit)
+        → Plays full m line old to new (r .at) (machine (withLists (m .state) (set (m .state .nodes) i (r .node)) (r .held)) store′
+        (m .memory))
+    list-plays w r s t = let u = t is slot-is (m .state) (m .memory) slot fit in plays-call (wanted n w) s (u .does) (u .wrote) (u .room)
 
   -- ---- a call at the reader of node n, at index i
-  pub reader-plays : (n i : ℕ) (is : isReader full n ≡ true) (at : i ≡ n - 1) (c : Call) {line old new store′ memory′ : List ℕ} {to end : ℕ} (r : Seated)
+  pub reader-plays : (n i : ℕ) (is : isReader full n ≡ true) (at : i ≡ n - 1) (c : Call) {line old new store′ memory′ : List ℕ} {to end : ℕ}
+      (r : Seated)
       → D.spoken line ≡ D.call c
-      → Seats full (λ g. step full g c) n (getD (m .state .nodes) i blank) (getD (m .state .readers) i blankReader) (m .state .held) (m .store)
+      → Seats full (λ g. step full g c) n (getD (m .state .nodes) i blank) (getD (m .state .readers) i blankReader) (m .state .held)
+      (m .store)
       (m .memory) r store′ memory′
       → Put old to (saidLine (spoken (r .reply))) new end → end ≤ to + 691
       → Plays full m line old to new end (machine (record {
@@ -95,11 +70,11 @@ module _ (m : Machine) (fit : unfit full m ≡ 0) where
         nodes = set (m .state .nodes) i (r .node);
         held = r .held;
       }) store′ memory′)
-  reader-plays n i is at c r s d p h = plays-call full m fit c s (seats-here m fit n i is at (λ g. step full g c) r d refl) p h
+  reader-plays n i is at c r s d p h = plays-call c s (seats-here m fit n i is at (λ g. step full g c) r d refl) p h
 
   -- ---- a command of the gateway's own
   pub hub-plays : (c : Call) {line old new store′ : List ℕ} {to end : ℕ} (r : Housed) → D.spoken line ≡ D.call c
       → Houses full (λ g. step full g c) (m .state .nodes) (m .state .held) (m .state .name) (m .store) r store′
       → Put old to (saidLine (spoken (r .reply))) new end → end ≤ to + 691
       → Plays full m line old to new end (machine (housed (m .state) r) store′ (m .memory))
-  hub-plays c r s d p h = plays-call full m fit c s (houses-here m fit (λ g. step full g c) r d) p h
+  hub-plays c r s d p h = plays-call c s (houses-here m fit (λ g. step full g c) r d) p h

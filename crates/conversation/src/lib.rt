@@ -3,6 +3,9 @@ use answers::slots::node_slot;
 use dialogout::put_said;
 use gather::count_lines;
 use gather::line_end;
+use lines::LONGEST_ID;
+use lines::LONGEST_PLAQUE;
+use lines::MOST_WORDS;
 use lines::read_line;
 use state::State;
 use talk::aim::Whom;
@@ -19,11 +22,11 @@ ghost use lib.ListN.{length};
 ghost use Rattle.meaning.specs.Bench.{full};
 ghost use Rattle.state.specs.Machine.{machine};
 ghost use Rattle.state.specs.Consistent.{unfit};
-ghost use Rattle.dialog.specs.Dialog.{linesOf};
-ghost use Rattle.conversation.specs.Conversation.{longestAnswer, Speaks, Converses};
+ghost use Rattle.dialog.specs.Dialog.{linesOf, longestAnswer};
+ghost use Rattle.conversation.specs.Conversation.{Speaks, Converses};
 
 // No line has a longer answer.
-pub const LONGEST: usize = 691;
+pub const LONGEST: usize = dialogout::LONGEST;
 
 // The state after the lines, and the place in the output after their answers.
 pub struct Spoken {
@@ -42,12 +45,13 @@ pub fn speak(
 ) -> Spoken
     requires { ⌜ unfit full (machine opened (now store) (now plaques)) ≡ 0 ⌝ }
     requires { ⌜ length (linesOf (now input)) * longestAnswer ≤ length (now out) ⌝ }
-    ensures { λ r. ⌜ Speaks full (machine opened (now (store .entry)) (now (plaques .entry))) (now (input .entry)) (now (out .entry)) (now (out .exit)) (r .at)
+    ensures { λ r. ⌜ Speaks full (machine opened (now (store .entry)) (now (plaques .entry))) (now (input .entry)) (now (out .entry))
+        (now (out .exit)) (r .at)
         (machine (r .state) (now (store .exit)) (now (plaques .exit))) ⌝ }
 {
-    let mut packet = [0u16; 256];
-    let mut id = [0u8; 16];
-    let mut content = [0u8; 2047];
+    let mut packet = [0u16; MOST_WORDS];
+    let mut id = [0u8; LONGEST_ID.0 as usize];
+    let mut content = [0u8; LONGEST_PLAQUE.0 as usize];
     let mut s = opened;
     let mut from = 0;
     let mut to = 0;

@@ -1,24 +1,13 @@
 -- To the layout with places: those that the layout without gaps gives make lists in order, which mean the same. Any bench.
 -- Assumes nothing.
-use Prim.Native.Nat.{ℕ, suc, _+_, _≤_, max, min}
-use mathlib.Core.Path.{_≡_, refl, sym, ap, _∙_}
-use mathlib.Core.Bool.{Bool, true, false, not, cond}
-use mathlib.Core.List.{List, [], _∷_, _++_, map, append-assoc}
-use native.Mathlib.Nat.{add-zero}
-use native.Mathlib.Omega.{arith}
-use lib.Dec.{eqb}
-use lib.ListN.{length, getD, replicate, length-append}
-use lib.Seq.{getD-append-add, drop-append-seam, take-append-seam}
-use borrow.Author.Tests.{eqb-true, eq-eqb, le-leb, le-ltb}
-use Rattle.units.specs.Count.{every}
+use Rattle.units.proofs.Common.{sym, _∙_, _≡_, refl, ap, true, false, Bool, cond, not, List, [], _∷_, _++_, map, append-assoc, ℕ, _≤_, _+_}
+use Rattle.units.proofs.Common.{suc, min, max, add-zero, arith, eqb, length, getD, replicate, length-append, getD-append-add, eq-eqb}
+use Rattle.units.proofs.Common.{le-leb, eqb-true, le-ltb, every, and-true}
+use lib.Seq.{drop-append-seam, take-append-seam}
 use Rattle.units.specs.declared.Words.{Words}
-use Rattle.units.proofs.Choice.{and-true}
-use Rattle.meaning.specs.Bench.{Bench}
+use Rattle.meaning.proofs.Terms.{Bench, wellFormed, added, held}
 use Rattle.meaning.specs.Gateway as M
-use Rattle.meaning.specs.Response.{wellFormed}
-use Rattle.meaning.specs.Room.{added, held}
-use Rattle.state.specs.Layout.{laid, allLaid}
-use Rattle.state.specs.Consistent.{nodeAt, formed, bounded, counts}
+use Rattle.state.proofs.Terms.{laid, allLaid, nodeAt, formed, bounded, counts}
 use Rattle.state.specs.declared.node.Node.{Node}
 use Rattle.state.proofs.Lists.{both}
 use Rattle.state.proofs.Read.{first-word, length-laid, nodeFor, Packed}
@@ -120,7 +109,7 @@ helds-for (h ∷ hs) [] e = absurd (let z : _≡_ {A = ℕ} 0 1 = cc in omega ar
 helds-for (h ∷ hs) (m ∷ ms) e =
     let p : h .0 ≡ held m = cc in
     let q : counts hs ≡ map held ms = cc in
-    ap (λ (k : ℕ). record { 0 = k } ∷ hs) p ∙ ap (λ (l : List Words). heldFor m ∷ l) (helds-for hs ms q)
+    rw (← p) (ap (λ (l : List Words). h ∷ l) (helds-for hs ms q))
 
 -- ---- all nodes, in a store x that has their answers behind p
 module _ (b : Bench) (x q : List ℕ) where
@@ -158,7 +147,7 @@ module _ (b : Bench) (x q : List ℕ) where
 -- ---- lists without gaps, given places
 module _ (b : Bench) (store : List ℕ) (ns : List Node) (hs : List Words) (ms : List M.Node) (p : Packed b store ns hs ms) where
   old-is : oldNodes 0 ns hs ≡ oldNodes 0 (map nodeFor ms) (map heldFor ms)
-  old-is = ap (λ (l : List Node). oldNodes 0 l hs) (p .nodes) ∙ ap (oldNodes 0 (map nodeFor ms)) (helds-for hs ms (p .helds))
+  old-is = cc (p .nodes, helds-for hs ms (p .helds))
 
   pub placed-means : map (nodeOf store) (oldNodes 0 ns hs) ≡ ms
   placed-means = rw old-is (old-means b store (replicate (p .spare) 0) [] 0 ms (p .words) (p .formed) .0)

@@ -1,16 +1,14 @@
 -- One turn more of the converters' loops.
 -- Assumes nothing.
-use Prim.Native.Nat.{ℕ, zero, suc, _+_, _-_, _≤_, _<_}
-use mathlib.Core.Path.{_≡_, refl, sym, ap, _∙_}
-use mathlib.Core.List.{List, [], _∷_, _++_, map, append-assoc, append-nil}
-use native.Mathlib.Nat.{add-zero, zero-add, add-assoc}
-use native.Mathlib.Numerals.{add-one}
-use native.Mathlib.Omega.{arith}
-use lib.ListN.{length, take, drop, getD, set, length-append, length-take, length-drop, take-append-drop, replicate, length-replicate}
+use Rattle.units.proofs.Common.{sym, _∙_, _≡_, refl, ap, List, [], _∷_, _++_, map, append-assoc, append-nil, ℕ, _≤_, _-_, _+_, _<_, suc}
+use Rattle.units.proofs.Common.{zero, add-zero, zero-add, add-one, arith, length, drop, getD, take, set, length-drop, replicate}
+use Rattle.units.proofs.Common.{length-append, length-replicate, length-take, take-append-drop, drop-drop, take-at, drop-at, take-suc}
+use Rattle.units.proofs.Common.{take-suc-set}
+use native.Mathlib.Nat.{add-assoc}
 use lib.ListN.{replicate-append-replicate}
-use lib.Seq.{take-suc, take-at, drop-at, take-suc-set, drop-length, drop-drop, drop-append-add}
+use lib.Seq.{drop-length, drop-append-add}
 use Rattle.units.specs.declared.Words.{Words}
-use Rattle.state.specs.Consistent.{counts}
+use Rattle.state.proofs.Terms.{counts}
 use Rattle.state.specs.declared.node.Node.{Node}
 use Rattle.state.proofs.Lists.{map-append}
 use Rattle.lists.specs.Room.{sum, placeOf}
@@ -56,7 +54,8 @@ new-is s ns h =
 abbrev pub run : List ℕ → O.Node → List ℕ
 run store n = take (n .list .words .0) (drop (n .list .place) store)
 
-pub length-run : (store : List ℕ) (n : O.Node) → n .list .place + n .list .words .0 ≤ length store → length (run store n) ≡ n .list .words .0
+pub length-run : (store : List ℕ) (n : O.Node) → n .list .place + n .list .words .0 ≤ length store → length (run store n) ≡
+    n .list .words .0
 length-run store n h = simp (length-take, length-drop) (omega arith)
 
 runs-append : (store : List ℕ) (xs ys : List O.Node) → runsOf store (xs ++ ys) ≡ runsOf store xs ++ runsOf store ys
@@ -96,11 +95,21 @@ counts-taken (h ∷ hs) (suc k) = ap (λ (l : List ℕ). h .0 ∷ l) (counts-tak
 
 pub old-filled : (ns : List Node) (hs : List Words) (out : List O.Node) (k to : ℕ) (d : Node) (e : Words) (m : O.Node) → k < length ns
     → length hs ≡ length ns → k < length out → to ≡ placeOf (counts hs) k → take k out ≡ oldNodes 0 (take k ns) (take k hs)
-    → m ∷ [] ≡ oldNodes to (getD ns k d ∷ []) (getD hs k e ∷ []) → take (k + 1) (set out k m) ≡ oldNodes 0 (take (k + 1) ns) (take (k + 1) hs)
+    → m ∷ [] ≡ oldNodes to (getD ns k d ∷ []) (getD hs k e ∷ []) → take (k + 1) (set out k m) ≡ oldNodes 0 (take (k + 1) ns)
+    (take (k + 1) hs)
 old-filled ns hs out k to d e m h z l t f g =
     let s : to ≡ 0 + sum (counts (take k hs)) = rw (zero-add, counts-taken) t in
     let y : length (take k ns) ≡ length (take k hs) = simp length-take (omega arith) in
-    rw (add-one, take-suc-set out k m l, take-suc ns k d h, take-suc hs k e (omega arith), old-append 0 (take k ns) _ (take k hs) _ y, f, g, s)
+    rw (
+      add-one,
+      take-suc-set out k m l,
+      take-suc ns k d h,
+      take-suc hs k e (omega arith),
+      old-append 0 (take k ns) _ (take k hs) _ y,
+      f,
+      g,
+      s,
+    )
 
 -- the words that the nodes hold, as numbers and as they stand
 pub helds-are : (hs : List Words) (ns : List O.Node) → counts hs ≡ wordsOf ns → hs ≡ map heldBy ns

@@ -1,21 +1,11 @@
 -- To the layout without gaps: what lists in order with places mean is kept. Any bench.
 -- Assumes nothing.
-use Prim.Native.Nat.{ℕ, zero, suc, _+_, _-_, _≤_}
-use mathlib.Core.Path.{_≡_, refl, sym, ap, _∙_}
-use mathlib.Core.Bool.{true, _&&_}
-use mathlib.Core.List.{List, [], _∷_, _++_, map}
-use native.Mathlib.Omega.{arith}
-use lib.ListN.{length, take, drop, getD, replicate, length-append, length-replicate}
-use lib.Seq.{take-add, drop-drop}
-use borrow.Author.Tests.{eqb-true}
-use Rattle.units.specs.Count.{every}
-use Rattle.units.proofs.Choice.{and-true}
-use Rattle.meaning.specs.Bench.{Bench}
+use Rattle.units.proofs.Common.{sym, _∙_, _≡_, refl, ap, true, _&&_, List, [], _∷_, _++_, map, ℕ, _≤_, _-_, _+_, suc, zero, arith, length}
+use Rattle.units.proofs.Common.{drop, getD, take, replicate, length-append, length-replicate, drop-drop, take-add, eqb-true, every}
+use Rattle.units.proofs.Common.{and-true}
+use Rattle.meaning.proofs.Terms.{Bench, wellFormed, added, held}
 use Rattle.meaning.specs.Gateway as M
-use Rattle.meaning.specs.Response.{wellFormed}
-use Rattle.meaning.specs.Room.{added, held}
-use Rattle.state.specs.Layout.{laid, allLaid}
-use Rattle.state.specs.Consistent.{nodeAt, formed, bounded, counts}
+use Rattle.state.proofs.Terms.{laid, allLaid, nodeAt, formed, bounded, counts}
 use Rattle.state.proofs.Lists.{both}
 use Rattle.state.proofs.Read.{nodeFor, Packed}
 use Rattle.store.proofs.Changed.{laid-fits}
@@ -35,9 +25,7 @@ module _ (store : List ℕ) where
   run-is (suc k) p =
       let w : ℕ = getD store p 0 in
       let s : ℕ = span store k (p + w) in
-      ap (λ (n : ℕ). take n (drop p store)) (span-tail store k p) ∙ take-add w s (drop p store)
-      ∙ ap (λ (l : List ℕ). take w (drop p store) ++ take s l) (drop-drop w p store)
-      ∙ ap (λ (l : List ℕ). take w (drop p store) ++ l) (run-is k (p + w))
+      rw (span-tail store k p, take-add w s (drop p store), drop-drop w p store, run-is k (p + w))
 
   runs-laid : (ns : List O.Node) → every (counted store) ns ≡ true → runsOf store ns ≡ allLaid (map (nodeOf store) ns)
   unfolding every counted runsOf allLaid nodeOf pendingOf
@@ -59,7 +47,7 @@ module _ (store : List ℕ) where
   helds-same (n ∷ ns) c =
       let d = and-true (counted store n) (every (counted store) ns) c in
       let e : n .list .words .0 ≡ added (pendingOf store (n .list)) = eqb-true _ _ (d .0) in
-      ap (λ (k : ℕ). k ∷ counts (map heldBy ns)) e ∙ ap (λ (l : List ℕ). added (pendingOf store (n .list)) ∷ l) (helds-same ns (d .1))
+      cc (helds-same ns (d .1))
 
   -- ---- each answer is a well-formed one of its node
   module _ (b : Bench) where
@@ -109,4 +97,5 @@ module _ (b : Bench) (store : List ℕ) (ns : List O.Node) (size : length store 
   pub runs-fit : length (runsOf store ns) ≤ b .store
   unfolding newStore
   runs-fit =
-      let e = sym (length-append (runsOf store ns) (replicate (length store - length (runsOf store ns)) 0)) ∙ packed-new .size in omega arith
+      let e = sym (length-append (runsOf store ns) (replicate (length store - length (runsOf store ns)) 0)) ∙ packed-new .size in omega
+      arith

@@ -3,7 +3,7 @@
 use Prim.Native.Nat.{ℕ}
 use mathlib.Core.Path.{_≡_}
 use lib.ListN.{replicate}
-use Rattle.meaning.specs.Bench.{Bench}
+use Rattle.meaning.specs.Bench.{Bench, full, nodeCount}
 use Rattle.state.specs.State.{nothing, freshNode}
 use Rattle.state.specs.declared.State.{State}
 use Rattle.state.specs.Machine as N
@@ -16,10 +16,15 @@ use Rattle.convert.specs.Convert.{newMachine, oldMachine}
 
 -- a state in the other layout with nothing pending: what is handed back with a number
 abbrev pub silent : S.State → State
-silent s = record { name = s .name; readers = s .readers; nodes = replicate 17 freshNode; held = replicate 17 nothing }
+silent s = record {
+  name = s .name;
+  readers = s .readers;
+  nodes = replicate (nodeCount full) freshNode;
+  held = replicate (nodeCount full) nothing;
+}
 
 abbrev pub silentPlaced : State → S.State
-silentPlaced s = record { name = s .name; readers = s .readers; nodes = replicate 17 PS.freshNode }
+silentPlaced s = record { name = s .name; readers = s .readers; nodes = replicate (nodeCount full) PS.freshNode }
 
 -- m is what is lent, m′ what is left, with the state handed back
 pub record ToNew (b : Bench) (m : P.Machine) (refusal : ℕ) (m′ : N.Machine) : Type 0 where

@@ -7,12 +7,13 @@ use placed::State as PlacedState;
 use placed::fine::helds;
 use state::State;
 use state::node::Node;
+use units::NODES;
 use units::Words;
 ghost use mathlib.Core.Path.{_≡_};
 ghost use mathlib.Core.List.{map};
 ghost use Prim.Native.Nat.{_≤_};
 ghost use lib.ListN.{length, replicate};
-ghost use Rattle.meaning.specs.Bench.{full};
+ghost use Rattle.meaning.specs.Bench.{full, nodeCount};
 ghost use Rattle.state.specs.State.{freshNode};
 ghost use Rattle.state.specs.Machine as N;
 ghost use Rattle.state.specs.Consistent.{counts};
@@ -36,13 +37,13 @@ pub struct Placed {
 }
 
 // Copies the words of all lists, node by node, to the front of out.
-fn lay(nodes: [PlacedNode; 17], store: &[u16], out: &mut [u16])
+fn lay(nodes: [PlacedNode; NODES], store: &[u16], out: &mut [u16])
     requires { ⌜ EachInside (length (now store)) nodes × (length (runsOf (now store) nodes) ≤ length (now out)) ⌝ }
     ensures { λ _. ⌜ now (out .exit) ≡ putIn (now (out .entry)) 0 (runsOf (now (store .entry)) nodes) ⌝ }
 {
     let mut to: usize = 0;
     let mut k: usize = 0;
-    while k < 17 {
+    while k < NODES {
         let n = nodes[k];
         let list = n.list;
         let from = list.place;
@@ -54,24 +55,24 @@ fn lay(nodes: [PlacedNode; 17], store: &[u16], out: &mut [u16])
 }
 
 // Nodes with nothing pending.
-fn silent() -> [Node; 17]
-    ensures { λ r. ⌜ r ≡ replicate 17 freshNode ⌝ }
+fn silent() -> [Node; NODES]
+    ensures { λ r. ⌜ r ≡ replicate (nodeCount full) freshNode ⌝ }
 {
     let node = Node {
         instance: 0,
         handover: 1,
         answers: 0,
     };
-    [node; 17]
+    [node; NODES]
 }
 
-fn without_places(nodes: [PlacedNode; 17]) -> [Node; 17]
+fn without_places(nodes: [PlacedNode; NODES]) -> [Node; NODES]
     requires { ⌜ Few nodes ⌝ }
     ensures { λ r. ⌜ r ≡ map newNode nodes ⌝ }
 {
     let mut ns = silent();
     let mut k: usize = 0;
-    while k < 17 {
+    while k < NODES {
         let n = nodes[k];
         let list = n.list;
         let m = Node {
@@ -87,7 +88,8 @@ fn without_places(nodes: [PlacedNode; 17]) -> [Node; 17]
 
 // To the layout without gaps: the answers are packed, and the words behind them become 0.
 pub fn to_new(s: PlacedState, store: &mut [u16], plaques: &[u8]) -> Packed
-    ensures { λ r. ⌜ ToNew full (P.machine s (now (store .entry)) (now (plaques .entry))) (r .refusal) (N.machine (r .state) (now (store .exit)) (now (plaques .entry))) ⌝ }
+    ensures { λ r. ⌜ ToNew full (P.machine s (now (store .entry)) (now (plaques .entry))) (r .refusal)
+        (N.machine (r .state) (now (store .exit)) (now (plaques .entry))) ⌝ }
 {
     let refusal = placed::unfit(s, store, plaques);
     let name = s.name;
@@ -98,7 +100,7 @@ pub fn to_new(s: PlacedState, store: &mut [u16], plaques: &[u8]) -> Packed
             name,
             readers,
             nodes: silent(),
-            held: [none; 17],
+            held: [none; NODES],
         };
         return Packed { state, refusal };
     }
@@ -116,8 +118,8 @@ pub fn to_new(s: PlacedState, store: &mut [u16], plaques: &[u8]) -> Packed
 }
 
 // The same, with places.
-fn silent_placed() -> [PlacedNode; 17]
-    ensures { λ r. ⌜ r ≡ replicate 17 PS.freshNode ⌝ }
+fn silent_placed() -> [PlacedNode; NODES]
+    ensures { λ r. ⌜ r ≡ replicate (nodeCount full) PS.freshNode ⌝ }
 {
     let list = Pending {
         count: 0,
@@ -129,18 +131,18 @@ fn silent_placed() -> [PlacedNode; 17]
         handover: 1,
         list,
     };
-    [node; 17]
+    [node; NODES]
 }
 
 // Each list gets the place where its answers lie, 0 where it has none.
-fn with_places(nodes: [Node; 17], held: [Words; 17]) -> [PlacedNode; 17]
+fn with_places(nodes: [Node; NODES], held: [Words; NODES]) -> [PlacedNode; NODES]
     requires { ⌜ sum (counts held) ≤ full .store ⌝ }
     ensures { λ r. ⌜ r ≡ oldNodes 0 nodes held ⌝ }
 {
     let mut ns = silent_placed();
     let mut to: usize = 0;
     let mut k: usize = 0;
-    while k < 17 {
+    while k < NODES {
         let n = nodes[k];
         let words = held[k];
         let mut place: usize = 0;
@@ -166,7 +168,8 @@ fn with_places(nodes: [Node; 17], held: [Words; 17]) -> [PlacedNode; 17]
 
 // To the layout with places: of the many that it allows, the one in which the store stays as it is.
 pub fn to_old(s: State, store: &[u16], plaques: &[u8]) -> Placed
-    ensures { λ r. ⌜ ToOld full (N.machine s (now (store .entry)) (now (plaques .entry))) (r .refusal) (P.machine (r .state) (now (store .entry)) (now (plaques .entry))) ⌝ }
+    ensures { λ r. ⌜ ToOld full (N.machine s (now (store .entry)) (now (plaques .entry))) (r .refusal)
+        (P.machine (r .state) (now (store .entry)) (now (plaques .entry))) ⌝ }
 {
     let refusal = unfit(s, store, plaques);
     let name = s.name;

@@ -1,14 +1,7 @@
 -- Whom a call is for, taken apart.
 -- Assumes nothing.
-use mathlib.Core.Path.{_≡_, refl}
-use mathlib.Core.Bool.{Bool, true, false, _&&_, cond}
-use Prim.Native.Nat.{ℕ}
-use native.Mathlib.Omega.{arith}
-use lib.Dec.{eqb, leb}
-use borrow.Author.Tests.{leb-true, eqb-true}
-use Rattle.units.proofs.Choice.{and-true}
-use Rattle.meaning.specs.Bench.{Bench, hub, isReader}
-use Rattle.meaning.specs.Call.{Call, Whom, nobody, gateway, one, named, serves, whom}
+use Rattle.units.proofs.Common.{_≡_, refl, true, false, Bool, cond, _&&_, ℕ, arith, eqb, leb, eqb-true, leb-true, and-true}
+use Rattle.meaning.proofs.Terms.{Bench, hub, isReader, Call, Whom, nobody, gateway, one, named, serves, whom}
 use Rattle.demands.specs.Sound.{Sound}
 
 pub data Aim (b : Bench) (c : Call) : Whom → Type 0 where
@@ -28,5 +21,4 @@ aim b c = go (isReader b (named c)) refl (eqb (named c) hub && serves c) refl
 
 -- no reader is the gateway
 pub reader-apart : (b : Bench) → Sound b → (n : ℕ) → isReader b n ≡ true → n ≡ hub → ⊥
-reader-apart b ok n e q =
-    let le = leb-true n (b .readers) (and-true (leb 1 n) (leb n (b .readers)) e .1) in omega (arith, ok)
+reader-apart b ok n e q = let le = leb-true n (b .readers) (and-true (leb 1 n) (leb n (b .readers)) e .1) in omega (arith, ok)

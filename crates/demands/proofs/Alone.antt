@@ -1,18 +1,16 @@
 -- The third demand's second half: a reader that stays within its share, on a gateway that does, never notices the others.
 -- Assumes nothing.
-use Prim.Native.Nat.{ℕ}
-use mathlib.Core.Path.{_≡_, refl, sym, ap, ap₂, _∙_, subst}
-use mathlib.Core.Bool.{Bool, true, false, _||_, cond, true≢false}
-use mathlib.Core.List.{List, [], _∷_}
-use lib.Dec.{eqb}
-use borrow.Author.Tests.{eqb-true, eqb-false, eq-eqb, ne-eqb}
-use Rattle.meaning.specs.Bench.{Bench, hub}
-use Rattle.meaning.specs.Gateway.{Node, Reader, Gateway, put, joined, join, taken, swept, fresh, setNode, setReader}
-use Rattle.meaning.specs.Room.{fits}
-use Rattle.meaning.specs.Call.{Call, Try, Local, Outcome, Whom, nobody, gateway, one, lifted, heeded, tried, settled, roomed, step, run, fromDesk, Desk, judged, whom, named, Result, done}
+use Rattle.units.proofs.Common.{yes-or, needs, sym, _∙_, _≡_, refl, ap, true, false, Bool, cond, true≢false, List, [], _∷_, ℕ, eqb, eq-eqb}
+use Rattle.units.proofs.Common.{ne-eqb, eqb-true, eqb-false}
+use mathlib.Core.Path.{ap₂}
+use Rattle.meaning.proofs.Terms.{atHub, Bench, hub, Node, Reader, Gateway, put, joined, join, taken, swept, fresh, setNode, setReader, fits}
+use Rattle.meaning.proofs.Terms.{Call, Try, Local, Outcome, Whom, nobody, gateway, one, lifted, heeded, tried, settled, roomed, step, run}
+use Rattle.meaning.proofs.Terms.{fromDesk, Desk, judged, whom, named, Result, done}
 use Rattle.demands.specs.Sound.{Sound}
 use Rattle.demands.specs.Demand.{Bounds, kept, spared, stays, struck, line, log, ofOurs, Same, ours, Eased, Ease}
+use Rattle.demands.proofs.Local.{cond-all}
 use Rattle.demands.proofs.Aim.{Aim, aim, reader-apart}
+use Rattle.demands.proofs.Numbers.{or-right}
 use Rattle.demands.proofs.Room.{put-other, BoundsT, bounds-tried, bounds-step, bounds-fresh, fits-within}
 
 -- ---- what is struck out: exactly the calls for a reader that is not i
@@ -40,29 +38,15 @@ unfolding put
 put-alike n a f k m e = ap (λ y. cond (eqb m n) a y) e
 
 same-setNode : (i n : ℕ) (x : Node) (g s : Gateway) → Same i g s → Same i (setNode n x g) (setNode n x s)
-same-setNode i n x g s e = record {
-  name = e .name;
-  own = put-alike n x (g .nodes) (s .nodes) i (e .own);
-  hubs = put-alike n x (g .nodes) (s .nodes) hub (e .hubs);
-  side = e .side;
-}
+same-setNode i n x g s e = search (needs, put-alike)
 
 same-setReader : (i n : ℕ) (r : Reader) (g s : Gateway) → Same i g s → Same i (setReader n r g) (setReader n r s)
-same-setReader i n r g s e = record {
-  name = e .name;
-  own = e .own;
-  hubs = e .hubs;
-  side = put-alike n r (g .reader) (s .reader) i (e .side);
-}
+same-setReader i n r g s e = search (needs, put-alike)
 
 same-fromDesk : (i : ℕ) (d : Desk) (g s : Gateway) → Same i g s → Same i (fromDesk d g) (fromDesk d s)
 unfolding fromDesk
-same-fromDesk i d g s e = record {
-  name = refl;
-  own = ap (swept (d .broom)) (e .own);
-  hubs = ap (swept (d .broom)) (e .hubs);
-  side = e .side;
-}
+same-fromDesk i d g s e =
+    record { name = refl; own = ap (swept (d .broom)) (e .own); hubs = ap (swept (d .broom)) (e .hubs); side = e .side }
 
 -- the nodes that are the same in both: reader i's and the gateway's own, which are those that the proviso speaks of
 data Seen (i : ℕ) : ℕ → Type 0 where
@@ -73,16 +57,9 @@ same-at : {i n : ℕ} → Seen i n → (g s : Gateway) → Same i g s → g .nod
 same-at own g s e = e .own
 same-at desk g s e = e .hubs
 
-or-left : {p : Bool} (q : Bool) → p ≡ true → (p || q) ≡ true
-or-left q e = rw e
-
-or-right : (p : Bool) → (p || true) ≡ true
-or-right true = refl
-or-right false = refl
-
 ours-seen : {i n : ℕ} → Seen i n → ours i n ≡ true
-ours-seen {i} own = or-left _ (eq-eqb i i refl)
-ours-seen {i} desk = or-right (eqb hub i)
+ours-seen {i} own = yes-or _ (eq-eqb i i refl)
+ours-seen {i} desk = or-right (eqb hub i) true refl
 
 -- ---- a call that stays
 -- two tries that differ at most in what reader i can't see
@@ -91,28 +68,24 @@ data Alike (i : ℕ) : Try → Try → Type 0 where
   give : {g s : Gateway} (r : Result) → Same i g s → Alike i (Try.give r g) (Try.give r s)
   due : {g s : Gateway} (n : ℕ) (w : List ℕ) → Seen i n → Same i g s → Alike i (Try.due n g w) (Try.due n s w)
 
-alike-one : {A : Type 0} (i : ℕ) (into : A → Gateway → Gateway) (n : ℕ) (g s : Gateway) (l : Local A)
+alike-lifted : {A : Type 0} (i : ℕ) (into : A → Gateway → Gateway) (n : ℕ) (g s : Gateway) (l : Local A)
     → ((a : A) → Same i (into a g) (into a s)) → Seen i n → Same i g s → Alike i (lifted into n g l) (lifted into n s l)
 unfolding lifted
-alike-one i into n g s (Local.refuse k) f o e = Alike.refuse k
-alike-one i into n g s (Local.give r a) f o e = Alike.give r (f a)
-alike-one i into n g s Local.acked f o e =
-    rw (← same-at o g s e) (Alike.give done (same-setNode i n (taken (g .nodes n)) g s e))
-alike-one i into n g s (Local.due a w) f o e = Alike.due n w o (f a)
-
-alike-lifted : {A : Type 0} (i : ℕ) (into : A → Gateway → Gateway) (n : ℕ) (g s : Gateway) (l m : Local A) → l ≡ m
-    → ((a : A) → Same i (into a g) (into a s)) → Seen i n → Same i g s → Alike i (lifted into n g l) (lifted into n s m)
-alike-lifted i into n g s l m p f o e = subst (λ k. Alike i (lifted into n g l) (lifted into n s k)) p (alike-one i into n g s l f o e)
+alike-lifted i into n g s (Local.refuse k) f o e = Alike.refuse k
+alike-lifted i into n g s (Local.give r a) f o e = Alike.give r (f a)
+alike-lifted i into n g s Local.acked f o e = rw (← same-at o g s e) (Alike.give done (same-setNode i n (taken (g .nodes n)) g s e))
+alike-lifted i into n g s (Local.due a w) f o e = Alike.due n w o (f a)
 
 alike-heeded : (b : Bench) (i : ℕ) (g s : Gateway) (c : Call) → Same i g s → (v : Whom) → spared i v ≡ true
     → Alike i (heeded b g c v) (heeded b s c v)
 unfolding heeded spared
 alike-heeded b i g s c e nobody q = Alike.refuse 7
 alike-heeded b i g s c e gateway q =
-    alike-lifted i fromDesk hub g s _ _ (cc) (λ d. same-fromDesk i d g s e) desk e
+    let p : atHub b (s .nodes hub) (s .name) c ≡ atHub b (g .nodes hub) (g .name) c = cc in
+    rw p (alike-lifted i fromDesk hub g s _ (λ d. same-fromDesk i d g s e) desk e)
 alike-heeded b i g s c e (one n) q =
     let m : n ≡ i = eqb-true n i q in
-    rw m (alike-lifted i (setReader i) i g s _ _ (cc) (λ a. same-setReader i i a g s e) own e)
+    rw (m, ← (e .own), ← (e .side)) (alike-lifted i (setReader i) i g s _ (λ a. same-setReader i i a g s e) own e)
 
 alike-tried : (b : Bench) (i : ℕ) (g s : Gateway) (c : Call) → Same i g s → stays b i c ≡ true → Alike i (tried b g c) (tried b s c)
 unfolding tried stays
@@ -146,8 +119,7 @@ agree-settled b ok i g s e (Alike.due {g = h} {s = k} n w o f) x y z =
 agree-step : (b : Bench) → Sound b → (i : ℕ) (g s : Gateway) (c : Call) → Same i g s → Bounds b g → Bounds b s
     → stays b i c ≡ true → Eased b i (tried b g c) → Agree i (step b g c) (step b s c)
 unfolding step
-agree-step b ok i g s c e x y q z =
-    agree-settled b ok i g s e (alike-tried b i g s c e q) (bounds-tried b g c x) (bounds-tried b s c y) z
+agree-step b ok i g s c e x y q z = agree-settled b ok i g s e (alike-tried b i g s c e q) (bounds-tried b g c x) (bounds-tried b s c y) z
 
 -- ---- a call for another reader
 -- a try that touches neither i nor the gateway's own node
@@ -157,22 +129,16 @@ data Apart (i : ℕ) (s : Gateway) : Try → Type 0 where
   due : {h : Gateway} (n : ℕ) (w : List ℕ) → (i ≡ n → ⊥) → (hub ≡ n → ⊥) → Same i h s → Apart i s (Try.due n h w)
 
 apart-setNode : (i n : ℕ) (x : Node) (g s : Gateway) → (i ≡ n → ⊥) → (hub ≡ n → ⊥) → Same i g s → Same i (setNode n x g) s
-apart-setNode i n x g s p q e = record {
-  name = e .name;
-  own = put-other n x (g .nodes) i p ∙ e .own;
-  hubs = put-other n x (g .nodes) hub q ∙ e .hubs;
-  side = e .side;
-}
+apart-setNode i n x g s p q e =
+    let own = put-other n x (g .nodes) i p ∙ e .own in
+    let hubs = put-other n x (g .nodes) hub q ∙ e .hubs in
+    search needs
 
 apart-setReader : (i n : ℕ) (r : Reader) (g s : Gateway) → (i ≡ n → ⊥) → Same i g s → Same i (setReader n r g) s
-apart-setReader i n r g s p e = record {
-  name = e .name;
-  own = e .own;
-  hubs = e .hubs;
-  side = put-other n r (g .reader) i p ∙ e .side;
-}
+apart-setReader i n r g s p e = let side = put-other n r (g .reader) i p ∙ e .side in search needs
 
-apart-lifted : (i n : ℕ) (g s : Gateway) (l : Local Reader) → (i ≡ n → ⊥) → (hub ≡ n → ⊥) → Same i g s → Apart i s (lifted (setReader n) n g l)
+apart-lifted : (i n : ℕ) (g s : Gateway) (l : Local Reader) → (i ≡ n → ⊥) → (hub ≡ n → ⊥) → Same i g s → Apart i s
+    (lifted (setReader n) n g l)
 unfolding lifted
 apart-lifted i n g s (Local.refuse k) p q e = Apart.refuse k
 apart-lifted i n g s (Local.give r a) p q e = Apart.give r (apart-setReader i n a g s p e)
@@ -190,11 +156,7 @@ apart-heeded b ok i g s c e (Aim.reader p) q =
 
 apart-tried : (b : Bench) → Sound b → (i : ℕ) (g s : Gateway) (c : Call) → Same i g s → stays b i c ≡ false → Apart i s (tried b g c)
 unfolding tried stays
-apart-tried b ok i g s c e q = go (eqb (judged b c) 0)
-  where
-    go : (t : Bool) → Apart i s (cond t (heeded b g c (whom b c)) (Try.refuse (judged b c)))
-    go true = apart-heeded b ok i g s c e (aim b c) q
-    go false = Apart.refuse (judged b c)
+apart-tried b ok i g s c e q = cond-all (Apart i s) (eqb (judged b c) 0) _ _ (apart-heeded b ok i g s c e (aim b c) q) (Apart.refuse _)
 
 apart-roomed : (i n : ℕ) (w : List ℕ) (g h s : Gateway) (t : Bool) → Same i g s → (i ≡ n → ⊥) → (hub ≡ n → ⊥) → Same i h s
     → Same i ((roomed t g (join n w h)) .next) s
@@ -217,51 +179,37 @@ same-line : (i : ℕ) (c : Call) (o u : Outcome) → Agree i o u → line i c o 
 unfolding line
 same-line i c o u a = cc (a .said, a .next .own, a .next .side, a .next .name)
 
--- one call more, where `rest` is the theorem for the calls after it
-alone-call : (b : Bench) → Sound b → (i : ℕ) (c : Call) (cs : List Call) (g s : Gateway) → Same i g s → Bounds b g → Bounds b s
-    → Eased b i (tried b g c)
-    → ((u : Gateway) → Same i ((step b g c) .next) u → Bounds b u
-    → kept (ofOurs b i) (log b i ((step b g c) .next) cs) ≡ log b i u (struck b i cs))
-    → (t : Bool) → stays b i c ≡ t
-    → cond t (line i c (step b g c) ∷ kept (ofOurs b i) (log b i ((step b g c) .next) cs)) (kept (ofOurs b i) (log b i ((step b g c) .next) cs))
-    ≡ log b i s (cond t (c ∷ struck b i cs) (struck b i cs))
-unfolding log
-alone-call b ok i c cs g s e x y z rest true q =
-    let a : Agree i (step b g c) (step b s c) = agree-step b ok i g s c e x y q z in
-    ap₂ _∷_ (same-line i c (step b g c) (step b s c) a) (rest ((step b s c) .next) (a .next) (bounds-step b s c y))
-alone-call b ok i c cs g s e x y z rest false q = rest s (apart-step b ok i g s c e q) y
+-- line for line the same, and the same at the end
+abbrev Alone : Bench → ℕ → List Call → Gateway → Gateway → Type 0
+Alone b i cs g s = (kept (ofOurs b i) (log b i g cs) ≡ log b i s (struck b i cs)) × Same i (run b g cs) (run b s (struck b i cs))
 
-alone-from : (b : Bench) → Sound b → (i : ℕ) (cs : List Call) (g s : Gateway) → Same i g s → Bounds b g → Bounds b s → Ease b i g cs
-    → kept (ofOurs b i) (log b i g cs) ≡ log b i s (struck b i cs)
-unfolding kept struck log line Ease
-alone-from b ok i [] g s e x y z = refl
-alone-from b ok i (c ∷ cs) g s e x y z =
-    alone-call b ok i c cs g s e x y (z .0)
-    (λ u f w. alone-from b ok i cs ((step b g c) .next) u f (bounds-step b g c x) w (z .1)) (stays b i c) refl
+module _ (b : Bench) (ok : Sound b) (i : ℕ) where
+  alone-from : (cs : List Call) (g s : Gateway) → Same i g s → Bounds b g → Bounds b s → Ease b i g cs → Alone b i cs g s
+  unfolding kept struck log line run Ease
+  alone-from [] g s e x y z = (refl, e)
+  alone-from (c ∷ cs) g s e x y z =
+      go (λ u f w. alone-from cs ((step b g c) .next) u f (bounds-step b g c x) w (z .1)) (stays b i c) refl
+    where
+      go : ((u : Gateway) → Same i ((step b g c) .next) u → Bounds b u → Alone b i cs ((step b g c) .next) u) → (t : Bool) → stays b i c ≡ t
+          → (cond t (line i c (step b g c) ∷ kept (ofOurs b i) (log b i ((step b g c) .next) cs))
+          (kept (ofOurs b i) (log b i ((step b g c) .next) cs)) ≡ log b i s (cond t (c ∷ struck b i cs) (struck b i cs)))
+          × Same i (run b ((step b g c) .next) cs) (run b s (cond t (c ∷ struck b i cs) (struck b i cs)))
+      go rest true q =
+          let a = agree-step b ok i g s c e x y q (z .0) in
+          let r = rest ((step b s c) .next) (a .next) (bounds-step b s c y) in
+          (ap₂ _∷_ (same-line i c (step b g c) (step b s c) a) (r .0), r .1)
+      go rest false q = rest s (apart-step b ok i g s c e q) y
 
--- From a fresh state, over any calls, if every answer due from reader i or from the gateway's own node is within its node's share,
--- then the run's log without the lines of the calls for other readers is the log of the run without those calls:
--- line for line the same results, the same pending answers and counts of reader i, the same plaque, mode and memory, and the same name
-pub strike-out : (b : Bench) → Sound b → (i : ℕ) (memory : ℕ → List ℕ) (cs : List Call) → Ease b i (fresh memory) cs
-    → kept (ofOurs b i) (log b i (fresh memory) cs) ≡ log b i (fresh memory) (struck b i cs)
-strike-out b ok i memory cs z =
-    alone-from b ok i cs (fresh memory) (fresh memory) (same-refl i (fresh memory)) (bounds-fresh b ok memory) (bounds-fresh b ok memory) z
+  module _ (memory : ℕ → List ℕ) (cs : List Call) (z : Ease b i (fresh memory) cs) where
+    alone : Alone b i cs (fresh memory) (fresh memory)
+    alone = let o = bounds-fresh b ok memory in alone-from cs (fresh memory) (fresh memory) (same-refl i (fresh memory)) o o z
 
--- the same of the states that the two runs come to; with `bounds-run`, both bounds hold in both
-alone-state : (b : Bench) → Sound b → (i : ℕ) (cs : List Call) (g s : Gateway) → Same i g s → Bounds b g → Bounds b s → Ease b i g cs
-    → Same i (run b g cs) (run b s (struck b i cs))
-unfolding kept struck run Ease
-alone-state b ok i [] g s e x y z = e
-alone-state b ok i (c ∷ cs) g s e x y z =
-    go (λ u f w. alone-state b ok i cs ((step b g c) .next) u f (bounds-step b g c x) w (z .1)) (stays b i c) refl
-  where
-    go : ((u : Gateway) → Same i ((step b g c) .next) u → Bounds b u → Same i (run b ((step b g c) .next) cs) (run b u (struck b i cs)))
-        → (t : Bool) → stays b i c ≡ t → Same i (run b ((step b g c) .next) cs) (run b s (cond t (c ∷ struck b i cs) (struck b i cs)))
-    go rest true q =
-        rest ((step b s c) .next) ((agree-step b ok i g s c e x y q (z .0)) .next) (bounds-step b s c y)
-    go rest false q = rest s (apart-step b ok i g s c e q) y
+    -- From a fresh state, over any calls, if every answer due from reader i or from the gateway's own node is within its node's share,
+    -- then the run's log without the lines of the calls for other readers is the log of the run without those calls:
+    -- line for line the same results, the same pending answers and counts of reader i, the same plaque, mode and memory, and the same name
+    pub strike-out : kept (ofOurs b i) (log b i (fresh memory) cs) ≡ log b i (fresh memory) (struck b i cs)
+    strike-out = alone .0
 
-pub strike-out-state : (b : Bench) → Sound b → (i : ℕ) (memory : ℕ → List ℕ) (cs : List Call) → Ease b i (fresh memory) cs
-    → Same i (run b (fresh memory) cs) (run b (fresh memory) (struck b i cs))
-strike-out-state b ok i memory cs z =
-    alone-state b ok i cs (fresh memory) (fresh memory) (same-refl i (fresh memory)) (bounds-fresh b ok memory) (bounds-fresh b ok memory) z
+    -- the same of the states that the two runs come to; with `bounds-run`, both bounds hold in both
+    pub strike-out-state : Same i (run b (fresh memory) cs) (run b (fresh memory) (struck b i cs))
+    strike-out-state = alone .1

@@ -1,23 +1,19 @@
 -- Every row of the closed cases of the demands holds; the checker computes them. The proviso of the third is a statement, and so its
 -- cases are theorems; so are those of what the theorems ask of a bench.
 -- Assumes nothing.
-use Prim.Native.Nat.{ℕ}
-use mathlib.Core.Path.{_≡_, refl, sym}
-use mathlib.Core.Bool.{true, true≢false}
-use mathlib.Core.List.{[]}
-use lib.Dec.{lit≤, lit<, le→leb, lt→ltb}
-use Rattle.meaning.specs.Bench.{Bench, full}
-use Rattle.meaning.specs.Call.{Try}
-use Rattle.meaning.specs.Cases.{unheld, hex}
+use Rattle.units.proofs.Common.{sym, _≡_, refl, true, true≢false, [], ℕ, lit≤, lit<}
+use lib.Dec.{le→leb, lt→ltb}
+use Rattle.meaning.proofs.Terms.{Bench, full, Try, unheld}
+use Rattle.meaning.specs.Cases.{hex}
 use Rattle.meaning.proofs.Opened.{calls}
 use Rattle.demands.specs.Sound.{Sound}
 use Rattle.demands.specs.Demand.{kept, spared, stays, struck, line, log, Eased}
-use Rattle.demands.specs.Counts.{isQueued, nodeFor, broomOf, broomKind, broomCall, broomFor, isReset, isSweep, isAck, tally}
-use Rattle.demands.specs.Counts.{answerOf, turned, past}
-use Rattle.demands.specs.Wrong.{ranges, ranging, passes, reportPasses, pastPlaque, noRoom, none, away, nothing, otherNumber}
-use Rattle.demands.specs.Wrong.{longer, tooShort, stateDoubts, wrong}
-use Rattle.demands.specs.CasesOfDemands.{blank, holding, number, lengthIn, delayIn, struckCases, lineCases, countCases}
-use Rattle.demands.specs.CasesOfDemands.{pastCases, rangeCases, roomCases, pendingCases, demandCases}
+use Rattle.demands.specs.Counts.{isQueued, nodeFor, broomOf, broomKind, broomCall, broomFor, isReset, isSweep, isAck, tally, answerOf}
+use Rattle.demands.specs.Counts.{turned, past}
+use Rattle.demands.specs.Wrong.{ranges, ranging, passes, reportPasses, pastPlaque, noRoom, none, away, nothing, otherNumber, longer}
+use Rattle.demands.specs.Wrong.{tooShort, stateDoubts, wrong}
+use Rattle.demands.specs.CasesOfDemands.{blank, holding, number, lengthIn, delayIn, struckCases, lineCases, countCases, pastCases}
+use Rattle.demands.specs.CasesOfDemands.{rangeCases, roomCases, pendingCases, demandCases}
 
 -- what the rows compute with: to name one of these on a line of `unfolding` opens all that its own line names
 unfoldable pub counts : ℕ
@@ -67,5 +63,4 @@ tightest = record { apart = lit< tt; modest = lit≤ tt; stored = lit≤ tt; bar
 -- a reader more, a limit below the share, a store of a word less, a share of 5
 pub too-tight :
     (Sound (bench 32 198 6 6) → ⊥) × (Sound (bench 31 192 6 5) → ⊥) × (Sound (bench 31 191 6 6) → ⊥) × (Sound (bench 31 192 5 6) → ⊥)
-too-tight =
-    (λ s. lt→ltb 32 32 (s .apart), λ s. le→leb 6 5 (s .modest), λ s. le→leb 192 191 (s .stored), λ s. le→leb 6 5 (s .bare))
+too-tight = (λ s. lt→ltb 32 32 (s .apart), λ s. le→leb 6 5 (s .modest), λ s. le→leb 192 191 (s .stored), λ s. le→leb 6 5 (s .bare))

@@ -1,26 +1,18 @@
 -- A node's instance count is the number of its answers since the start or the last 61, modulo 256, counted from the calls.
 -- Assumes nothing.
-use Prim.Native.Nat.{ℕ, _+_, _%_}
-use mathlib.Core.Path.{_≡_, refl, ap, _∙_, subst}
-use mathlib.Core.Bool.{Bool, true, false, _&&_, cond, false≢true}
-use mathlib.Core.List.{List, [], _∷_}
-use native.Mathlib.Omega.{arith}
-use lib.Dec.{eqb, leb}
-use lib.ListN.{length}
-use borrow.Author.Tests.{eqb-true}
+use Rattle.units.proofs.Common.{_∙_, _≡_, refl, ap, subst, true, false, Bool, cond, _&&_, false≢true, List, [], _∷_, ℕ, _+_, _%_, arith}
+use Rattle.units.proofs.Common.{eqb, leb, length, eqb-true}
 use Rattle.units.specs.declared.Form.{Form}
 use Rattle.units.specs.declared.stamp.Stamp.{Stamp}
-use Rattle.meaning.specs.Bench.{Bench, hub}
-use Rattle.meaning.specs.Packet.{wordNo}
-use Rattle.meaning.specs.Response.{responseBody, shown}
-use Rattle.meaning.specs.Gateway.{Node, Reader, Gateway, put, setReader, join, joined, taken, Sweep, none, clearing, resetting, emptied, swept, fresh}
-use Rattle.meaning.specs.Room.{fits}
+use Rattle.meaning.proofs.Terms.{Bench, hub, wordNo, responseBody, shown, Node, Reader, Gateway, put, setReader, join, joined, taken, Sweep}
+use Rattle.meaning.proofs.Terms.{none, clearing, resetting, emptied, swept, fresh, fits, Call, command, check, arrive, leave, collect}
+use Rattle.meaning.proofs.Terms.{acknowledge, Local, Try, Whom, nobody, gateway, one, Desk, idle, Outcome, judged, whom, kindIn, bytesIn}
+use Rattle.meaning.proofs.Terms.{answer, collecting, acknowledging, ruled, governed, atHub, lifted, fromDesk, heeded, tried, roomed}
+use Rattle.meaning.proofs.Terms.{settled, step, run}
 use Rattle.meaning.specs.declared.table.OfGateway.{OfGateway}
 use Rattle.meaning.specs.declared.table.OfGateway.the-variants.{GetName, SetName, Initialise, ResetGateway, Clear}
 use Rattle.meaning.specs.declared.table.Kind.{Kind}
 use Rattle.meaning.specs.declared.table.Kind.the-variants as K
-use Rattle.meaning.specs.Call.{Call, command, check, arrive, leave, collect, acknowledge, Local, Try, Whom, nobody, gateway, one, Desk, idle, Outcome}
-use Rattle.meaning.specs.Call.{judged, whom, kindIn, bytesIn, answer, collecting, acknowledging, ruled, governed, atHub, lifted, fromDesk, heeded, tried, roomed, settled, step, run}
 use Rattle.demands.specs.Demand.{line, log}
 use Rattle.demands.specs.Counts.{isQueued, nodeFor, broomOf, broomKind, broomCall, broomFor, isReset, isSweep, counting, tally}
 use Rattle.demands.proofs.Room.{put-all}
@@ -101,7 +93,7 @@ unfolding lifted CountT Brooms fromDesk isReset
 count-hub n z g (Local.refuse k) e = tt
 count-hub n z g (Local.give r d) e = swept-count (d .broom) (g .nodes n) ∙ ap (λ (y : Sweep). cond (isReset y) 0 (g .nodes n .count)) (e .0)
 count-hub n z g Local.acked e = count-taken n hub g
-count-hub n z g (Local.due d w) e = (refl, swept-count (d .broom) (g .nodes n) ∙ ap (λ (y : Sweep). cond (isReset y) 0 (g .nodes n .count)) (e .0))
+count-hub n z g (Local.due d w) e = (refl, rw (← (e .0)) (swept-count (d .broom) (g .nodes n)))
 
 count-heeded : (b : Bench) (n : ℕ) (g : Gateway) (c : Call) (v : Whom) → CountT n (nodeFor v) (isReset (broomFor b c v)) g (heeded b g c v)
 unfolding heeded CountT nodeFor broomFor isReset
@@ -109,10 +101,12 @@ count-heeded b n g c nobody = tt
 count-heeded b n g c gateway = count-hub n (broomCall b c) g _ (brooms-atHub b (g .nodes hub) (g .name) c)
 count-heeded b n g c (one m) = count-reader n m g _
 
-count-tried : (b : Bench) (n : ℕ) (g : Gateway) (c : Call) → CountT n (nodeFor (whom b c)) (isReset (broomFor b c (whom b c))) g (tried b g c)
+count-tried : (b : Bench) (n : ℕ) (g : Gateway) (c : Call) → CountT n (nodeFor (whom b c)) (isReset (broomFor b c (whom b c))) g
+    (tried b g c)
 unfolding tried CountT
 count-tried b n g c =
-    cond-all (CountT n (nodeFor (whom b c)) (isReset (broomFor b c (whom b c))) g) (eqb (judged b c) 0) _ _ (count-heeded b n g c (whom b c)) tt
+    cond-all (CountT n (nodeFor (whom b c)) (isReset (broomFor b c (whom b c))) g) (eqb (judged b c) 0) _ _
+    (count-heeded b n g c (whom b c)) tt
 
 -- ---- and in the outcome
 Counts : ℕ → ℕ → Bool → Gateway → Outcome → Type 0
@@ -143,7 +137,8 @@ unfolding CountT Counts settled isQueued
 counts-settled b n m z g (Try.refuse r) e k f = omega arith
 counts-settled b n m z g (Try.give r h) e k f = omega arith
 counts-settled b n m z g (Try.due j h w) e k f =
-    subst (λ i. Counts n i z g (roomed (fits b j (join j w h)) g (join j w h))) (e .0) (counts-roomed n j z w g h (e .1) (fits b j (join j w h))) k f
+    subst (λ i. Counts n i z g (roomed (fits b j (join j w h)) g (join j w h))) (e .0)
+    (counts-roomed n j z w g h (e .1) (fits b j (join j w h))) k f
 
 counts-step : (b : Bench) (n : ℕ) (g : Gateway) (c : Call) (k : ℕ) → g .nodes n .count ≡ k % 256
     → (step b g c) .next .nodes n .count ≡ counting b n k c ((step b g c) .said) % 256

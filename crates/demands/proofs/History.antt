@@ -1,22 +1,14 @@
 -- A node's pending answers are those made at it, in order, without those that went: by acknowledgement the oldest, by 61 and 79 all.
 -- Assumes nothing.
-use Prim.Native.Nat.{ℕ, _+_, _-_, _≤_}
-use mathlib.Core.Path.{_≡_, refl, sym, ap, _∙_}
-use mathlib.Core.Bool.{Bool, true, false, _&&_, cond}
-use mathlib.Core.List.{List, [], _∷_, _++_}
-use native.Mathlib.Omega.{arith}
-use native.Mathlib.Nat.{le-refl}
-use lib.Dec.{eqb}
-use lib.ListN.{length, drop, length-append, length-drop}
-use lib.Seq.{drop-append-le, drop-drop, drop-length}
-use borrow.Author.Tests.{eqb-true}
-use Rattle.meaning.specs.Bench.{Bench, hub}
-use Rattle.meaning.specs.Gateway.{Node, Reader, Gateway, put, setReader, join, joined, taken, Sweep, none, clearing, resetting, emptied, swept, fresh}
-use Rattle.meaning.specs.Room.{added, held, fits}
-use Rattle.meaning.specs.Call.{Call, Local, Try, Whom, nobody, gateway, one, Desk}
-use Rattle.meaning.specs.Call.{judged, whom, lifted, fromDesk, heeded, tried, roomed, settled, step, run}
+use Rattle.units.proofs.Common.{sym, _∙_, _≡_, refl, ap, true, false, Bool, cond, _&&_, List, [], _∷_, _++_, ℕ, _≤_, _+_, le-refl, arith}
+use Rattle.units.proofs.Common.{eqb, length, drop, length-drop, length-append, drop-drop, eqb-true}
+use lib.Seq.{drop-append-le, drop-length}
+use Rattle.meaning.proofs.Terms.{Bench, hub, Node, Reader, Gateway, put, setReader, join, joined, taken, Sweep, none, clearing, resetting}
+use Rattle.meaning.proofs.Terms.{emptied, swept, fresh, added, held, fits, Call, Local, Try, Whom, named, Desk, judged, whom, lifted}
+use Rattle.meaning.proofs.Terms.{fromDesk, heeded, tried, roomed, settled, step, run}
 use Rattle.demands.specs.Counts.{nodeFor, broomCall, broomFor, isSweep, isAck, Past, answerOf, turned, past, unmade, Tells}
 use Rattle.demands.proofs.Local.{cond-all, FineL, fine-atReader, fine-atHub}
+use Rattle.demands.proofs.Aim.{Aim, aim}
 use Rattle.demands.proofs.Counted.{Brooms, brooms-atHub}
 
 emptied-pending : (x : Node) (ws : List (List ℕ)) → x .pending ≡ ws → (emptied x ws) .pending ≡ []
@@ -54,33 +46,37 @@ pend-taken n m g h = go (eqb n m) refl
     go true e = rw (eqb-true n m e) (went h)
     go false e = kept
 
-module _ (n : ℕ) (a : Bool) (g : Gateway) (Q : Type 0) where
-  pend-reader : (m : ℕ) (l : Local Reader) → FineL Q a (g .nodes m .pending) l → PendT n m none a g (lifted (setReader m) m g l)
+module _ (n : ℕ) (a : Bool) (g : Gateway) (Q : Type 0) (k : ℕ) where
+  pend-reader : (m : ℕ) (l : Local Reader) → FineL Q a (g .nodes m .pending) k l → PendT n m none a g (lifted (setReader m) m g l)
   unfolding lifted PendT FineL isSweep
-  pend-reader m (Local.refuse k) p = tt
-  pend-reader m (Local.give r x) p = rw p kept
+  pend-reader m (Local.refuse j) p = tt
+  pend-reader m (Local.give r x) p = rw (p .0) kept
   pend-reader m Local.acked p = rw (p .0) (pend-taken n m g (p .1))
   pend-reader m (Local.due x w) p = (refl, refl)
 
-  pend-hub : (z : Sweep) (l : Local Desk) → FineL Q a (g .nodes hub .pending) l → Brooms z l → PendT n hub z a g (lifted fromDesk hub g l)
+  pend-hub : (z : Sweep) (l : Local Desk) → FineL Q a (g .nodes hub .pending) k l → Brooms z l → PendT n hub z a g (lifted fromDesk hub g l)
   unfolding lifted PendT FineL Brooms fromDesk
-  pend-hub z (Local.refuse k) p e = tt
-  pend-hub z (Local.give r d) p e = rw (p, swept-idle (d .broom) (g .nodes n) (e .0)) kept
+  pend-hub z (Local.refuse j) p e = tt
+  pend-hub z (Local.give r d) p e = rw (p .0, swept-idle (d .broom) (g .nodes n) (e .0)) kept
   pend-hub z Local.acked p e = rw (p .0) (pend-taken n hub g (p .1))
   pend-hub z (Local.due d w) p e =
       (refl, swept-pending (d .broom) (g .nodes n) ∙ ap (λ (y : Sweep). cond (isSweep y) [] (g .nodes n .pending)) (e .0))
 
-pend-heeded : (b : Bench) (n : ℕ) (g : Gateway) (c : Call) (v : Whom) → PendT n (nodeFor v) (broomFor b c v) (isAck c) g (heeded b g c v)
+pend-heeded : (b : Bench) (n : ℕ) (g : Gateway) (c : Call) {v : Whom} → Aim b c v
+    → PendT n (nodeFor v) (broomFor b c v) (isAck c) g (heeded b g c v)
 unfolding heeded PendT nodeFor broomFor
-pend-heeded b n g c nobody = tt
-pend-heeded b n g c gateway =
-    pend-hub n (isAck c) g _ (broomCall b c) _ (fine-atHub b (g .nodes hub) (g .name) c) (brooms-atHub b (g .nodes hub) (g .name) c)
-pend-heeded b n g c (one m) = pend-reader n (isAck c) g _ m _ (fine-atReader b m (g .nodes m) (g .reader m) c)
+pend-heeded b n g c (Aim.nowhere p q) = tt
+pend-heeded b n g c (Aim.desk p q) =
+    pend-hub n (isAck c) g _ _ (broomCall b c) _ (fine-atHub b (g .nodes hub) (g .reader hub) (g .name) c p)
+    (brooms-atHub b (g .nodes hub) (g .name) c)
+pend-heeded b n g c (Aim.reader p) =
+    pend-reader n (isAck c) g _ _ (named c) _ (fine-atReader b (g .nodes (named c)) (g .reader (named c)) c)
 
 pend-tried : (b : Bench) (n : ℕ) (g : Gateway) (c : Call) → PendT n (nodeFor (whom b c)) (broomFor b c (whom b c)) (isAck c) g (tried b g c)
 unfolding tried PendT
 pend-tried b n g c =
-    cond-all (PendT n (nodeFor (whom b c)) (broomFor b c (whom b c)) (isAck c) g) (eqb (judged b c) 0) _ _ (pend-heeded b n g c (whom b c)) tt
+    cond-all (PendT n (nodeFor (whom b c)) (broomFor b c (whom b c)) (isAck c) g) (eqb (judged b c) 0) _ _
+    (pend-heeded b n g c (aim b c)) tt
 
 -- ---- a list and its past
 tells-went : (p : Past) {ws vs : List (List ℕ)} {t : Bool} → Tells p ws → Went ws t vs
@@ -126,7 +122,8 @@ tells-roomed n j z a w g h p e f true =
 tells-roomed n j z a w g h p e f false = e
 
 tells-settled : (b : Bench) (n m : ℕ) (z : Sweep) (a : Bool) (g : Gateway) (p : Past) → Tells p (g .nodes n .pending)
-    → (t : Try) → PendT n m z a g t → Tells (turned ((settled b g t) .said) z a (eqb n m) (answerOf t) p) ((settled b g t) .next .nodes n .pending)
+    → (t : Try) → PendT n m z a g t → Tells (turned ((settled b g t) .said) z a (eqb n m) (answerOf t) p)
+    ((settled b g t) .next .nodes n .pending)
 unfolding settled PendT turned answerOf
 tells-settled b n m z a g p e (Try.refuse k) q = e
 tells-settled b n m z a g p e (Try.give r h) q = tells-went p e q

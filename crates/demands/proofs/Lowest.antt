@@ -1,28 +1,23 @@
 -- "The lowest number that applies is given, but a response being read is checked in the order 4, 5, 6, 7, 9, 3, 10, 11."
--- `refusal` gives the number of the first doubt that applies; the numbers of every other list of doubts never fall, so the first is the lowest.
+-- `refusal` gives the number of the first doubt that applies; the numbers of every other list of doubts never fall, so the first is the
+-- lowest.
 -- Assumes nothing.
-use Prim.Native.Nat.{ℕ, _≤_}
-use mathlib.Core.Path.{_≡_, refl}
-use mathlib.Core.Bool.{Bool, true, false, cond}
-use mathlib.Core.List.{List, [], _∷_, _++_}
-use native.Mathlib.Omega.{arith}
-use native.Mathlib.Nat.{le-refl}
-use lib.Dec.{eqb, leb}
-use borrow.Author.Tests.{leb-true, le-leb, ne-eqb}
+use Rattle.units.proofs.Common.{_≡_, refl, true, false, Bool, cond, List, [], _∷_, _++_, ℕ, _≤_, le-refl, arith, eqb, leb, ne-eqb, le-leb}
+use Rattle.units.proofs.Common.{leb-true, and-true}
 use Rattle.units.specs.declared.Form.{Form}
-use Rattle.units.proofs.Choice.{and-true}
-use Rattle.meaning.specs.Refusal.{Doubts, _when_, _at_when_, _orElse_, refusal}
-use Rattle.meaning.specs.Bench.{Bench}
-use Rattle.meaning.specs.Table.{rowOf}
-use Rattle.meaning.specs.Command.{frameDoubts, whoDoubts, limitDoubts, unusedDoubts, rowDoubts, commandDoubts, writerDoubts}
-use Rattle.meaning.specs.Response.{originDoubts, contentDoubts, responseDoubts, responderDoubts}
+use Rattle.meaning.proofs.Terms.{Doubts, _when_, _orElse_, refusal, Bench, rowOf, frameDoubts, whoDoubts, limitDoubts, unusedDoubts}
+use Rattle.meaning.proofs.Terms.{rowDoubts, commandDoubts, responseDoubts, Call, command, check, arrive, leave, collect, acknowledge, asked}
+use Rattle.meaning.proofs.Terms.{judged}
+use Rattle.meaning.specs.Refusal.{_at_when_}
+use Rattle.meaning.specs.Command.{writerDoubts}
+use Rattle.meaning.specs.Response.{originDoubts, contentDoubts, responderDoubts}
 use Rattle.meaning.specs.declared.packet.Command.{Command}
 use Rattle.meaning.specs.declared.packet.Response.{Response}
-use Rattle.meaning.specs.Call.{Call, command, check, arrive, leave, collect, acknowledge, asked, judged}
 use Rattle.demands.specs.Order.{Doubt, doubts, numbers, rise, positive, once, First, none, this, next, Applies, here, later}
 
 -- ---- every chain
-positive-append : (ds es : List Doubt) → positive (numbers (ds ++ es)) ≡ true → (positive (numbers ds) ≡ true) × (positive (numbers es) ≡ true)
+positive-append : (ds es : List Doubt) → positive (numbers (ds ++ es)) ≡ true → (positive (numbers ds) ≡ true) ×
+    (positive (numbers es) ≡ true)
 unfolding positive numbers
 positive-append [] es e = (refl, e)
 positive-append (d ∷ ds) es e =
@@ -30,7 +25,8 @@ positive-append (d ∷ ds) es e =
     let q = positive-append ds es (p .1) in
     (rw (p .0, q .0), q .1)
 
-first-append : {m n : ℕ} {ds es : List Doubt} → First m ds → First n es → positive (numbers ds) ≡ true → First (cond (eqb m 0) n m) (ds ++ es)
+first-append : {m n : ℕ} {ds es : List Doubt} → First m ds → First n es → positive (numbers ds) ≡ true → First (cond (eqb m 0) n m)
+    (ds ++ es)
 unfolding positive numbers
 first-append none g e = g
 first-append {es = es} (this m ds) g e =
@@ -86,7 +82,8 @@ pub refusal-applies : (ds : Doubts) → positive (numbers (doubts ds)) ≡ true 
 refusal-applies ds e h = first-applies (refusal-first ds e) h
 
 -- .. and if any applies, one is given, and no lower one applies
-pub refusal-lowest : (ds : Doubts) → rise 1 (numbers (doubts ds)) ≡ true → (n : ℕ) → Applies n (doubts ds) → (1 ≤ refusal ds) × (refusal ds ≤ n)
+pub refusal-lowest : (ds : Doubts) → rise 1 (numbers (doubts ds)) ≡ true → (n : ℕ) → Applies n (doubts ds) → (1 ≤ refusal ds) ×
+    (refusal ds ≤ n)
 refusal-lowest ds e n a =
     let p = rise-positive 1 (numbers (doubts ds)) (le-refl 1) e in
     let f = refusal-first ds p in
@@ -109,10 +106,6 @@ pub judged-first : (b : Bench) (c : Call) → First (judged b c) (doubts (asked 
 unfolding judged
 judged-first b c = refusal-first (asked b c) (asked-positive b c)
 
-pub judged-applies : (b : Bench) (c : Call) → (judged b c ≡ 0 → ⊥) → Applies (judged b c) (doubts (asked b c))
-unfolding judged
-judged-applies b c h = refusal-applies (asked b c) (asked-positive b c) h
-
 pub judged-lowest : (b : Bench) (c : Call) (n : ℕ) → Applies n (doubts (asked b c)) → (1 ≤ judged b c) × (judged b c ≤ n)
 unfolding judged
 judged-lowest b c n a = refusal-lowest (asked b c) (asked-rise b c) n a
@@ -127,7 +120,8 @@ pub writer-rise : (b : Bench) (f : Form) (m : Command) (bytes room : ℕ)
 unfolding rise numbers doubts writerDoubts whoDoubts limitDoubts unusedDoubts
 writer-rise b f m bytes room = refl
 
-pub responder-rise : (b : Bench) (f : Form) (r : Response) (bytes room : ℕ) → rise 1 (numbers (doubts (responderDoubts b f r bytes room))) ≡ true
+pub responder-rise : (b : Bench) (f : Form) (r : Response) (bytes room : ℕ) → rise 1 (numbers (doubts (responderDoubts b f r bytes room))) ≡
+    true
 unfolding rise numbers doubts responderDoubts
 responder-rise b f r bytes room = refl
 

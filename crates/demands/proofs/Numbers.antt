@@ -1,37 +1,27 @@
 -- Every call ends in a result or in a refusal of the table: by what it says alone 3 to 11; else by its own node's state 12, 14, 15 or 16;
 -- and 13 exactly where an answer is due that has no room.
 -- Assumes nothing.
-use Prim.Native.Nat.{ℕ, _≤_}
-use mathlib.Core.Path.{_≡_, refl, sym, ap, _∙_, subst}
-use mathlib.Core.Bool.{Bool, true, false, _&&_, _||_, cond, false≢true, true≢false}
-use mathlib.Core.List.{List}
-use native.Mathlib.Omega.{arith}
-use lib.Dec.{eqb, leb}
-use borrow.Author.Tests.{eqb-true, ne-eqb, leb-true, not-false}
-use Rattle.units.specs.Count.{within}
+use Rattle.units.proofs.Common.{sym, _∙_, _≡_, refl, ap, subst, true, false, Bool, cond, _&&_, false≢true, true≢false, _||_, List, ℕ, _≤_}
+use Rattle.units.proofs.Common.{inl, inr, _⊎_, eqb-false, not-true, arith, eqb, leb, ne-eqb, not-false, eqb-true, leb-true, within}
+use Rattle.units.proofs.Common.{and-true}
 use Rattle.units.specs.declared.Form.{Form}
 use Rattle.units.specs.declared.stamp.Stamp.{Stamp}
-use Rattle.units.proofs.Choice.{and-true}
 use Rattle.units.proofs.Arms.{allOf}
-use Rattle.meaning.specs.Bench.{Bench, hub, isReader, isNode}
-use Rattle.meaning.specs.Table.{suits}
-use Rattle.meaning.specs.Command.{frameDoubts, whoDoubts, limitDoubts, unusedDoubts, rowDoubts, commandDoubts, commandOf}
-use Rattle.meaning.specs.Gateway.{Gateway, join, setReader, fresh}
-use Rattle.meaning.specs.Room.{fits}
-use Rattle.meaning.specs.Call.{Call, command, check, arrive, leave, collect, acknowledge, Local, Try, Whom, Outcome, refused}
-use Rattle.meaning.specs.Call.{asked, judged, kindIn, commandIn}
-use Rattle.meaning.specs.Call.{named, serves, whom, lifted, fromDesk, heeded, tried, roomed, settled, step, run}
+use Rattle.meaning.proofs.Terms.{Bench, hub, isReader, isNode, suits, frameDoubts, whoDoubts, limitDoubts, unusedDoubts, rowDoubts}
+use Rattle.meaning.proofs.Terms.{commandDoubts, commandOf, Gateway, join, setReader, fresh, fits, Call, command, check, arrive, leave}
+use Rattle.meaning.proofs.Terms.{collect, acknowledge, Local, Try, Whom, Outcome, refused, asked, judged, kindIn, commandIn, named, serves}
+use Rattle.meaning.proofs.Terms.{whom, lifted, fromDesk, heeded, tried, roomed, settled, step, run}
 use Rattle.meaning.proofs.Chain.{accepts, fine, fine-at}
 use Rattle.demands.specs.Sound.{Sound}
 use Rattle.demands.specs.Demand.{Bounds}
 use Rattle.demands.specs.Order.{Doubt, doubts, numbers, First, none, this, next, Applies}
 use Rattle.demands.proofs.Lowest.{judged-first, judged-lowest}
-use Rattle.demands.proofs.Local.{late, FineL, SuitsReader, SuitsHub, fine-atReader, fine-atHub}
+use Rattle.demands.proofs.Local.{late, FineL, roomlessOf, SuitsReader, SuitsHub, fine-atReader, fine-atHub}
 use Rattle.demands.proofs.Aim.{Aim, aim, reader-apart}
 use Rattle.demands.proofs.Room.{BoundsT, Within, bounds-tried, bounds-run, fits-within}
 
 -- ---- what a call says alone: 0, for nothing, or 3 to 11
-or-right : (s t : Bool) → t ≡ true → (s || t) ≡ true
+pub or-right : (s t : Bool) → t ≡ true → (s || t) ≡ true
 or-right true t e = refl
 or-right false t e = e
 
@@ -93,70 +83,80 @@ never-nobody b (leave n) e p q = true≢false (sym (not-false _ (fine _ _ refl e
 never-nobody b (collect f n k) e p q = unnamed _ _ p q (not-false _ (fine _ _ refl e))
 never-nobody b (acknowledge n h) e p q = unnamed _ _ p q (not-false _ (fine _ _ refl e))
 
--- ---- in the gateway
--- why a call is refused room aside: what it says alone, or if nothing is wrong there, its own node's state
-pub data Reason (b : Bench) (c : Call) (k : ℕ) : Type 0 where
-  says : judged b c ≡ k → within 3 11 k ≡ true → Reason b c k
-  meets : judged b c ≡ 0 → late k ≡ true → Reason b c k
+-- ---- in the gateway: a try is refused by a number of its node's state, which is k, or k is 0
+unfoldable pub FineT : ℕ → Try → Type 0
+FineT k (Try.refuse j) = (late j ≡ true) × (j ≡ k)
+FineT k (Try.give r h) = 0 ≡ k
+FineT k (Try.due n h w) = 0 ≡ k
 
-ReasonT : Bench → Call → Try → Type 0
-ReasonT b c (Try.refuse k) = Reason b c k
-ReasonT b c (Try.give r h) = Unit
-ReasonT b c (Try.due n h w) = Unit
+fine-lifted : {A : Type 0} (into : A → Gateway → Gateway) (n : ℕ) (g : Gateway) (Q : Type 0) (a : Bool) (ws : List (List ℕ)) (k : ℕ)
+    (l : Local A) → FineL Q a ws k l → Q → FineT k (lifted into n g l)
+unfolding lifted FineT FineL
+fine-lifted into n g Q u ws k (Local.refuse j) p q = p q
+fine-lifted into n g Q u ws k (Local.give r a) p q = p .1 q
+fine-lifted into n g Q u ws k Local.acked p q = p .2 q
+fine-lifted into n g Q u ws k (Local.due a w) p q = p .1 q
 
-reason-lifted : {A : Type 0} (b : Bench) (c : Call) (into : A → Gateway → Gateway) (n : ℕ) (g : Gateway) (Q : Type 0) (a : Bool) (ws : List (List ℕ)) (l : Local A)
-    → judged b c ≡ 0 → FineL Q a ws l → Q → ReasonT b c (lifted into n g l)
-unfolding lifted ReasonT FineL
-reason-lifted b c into n g Q u ws (Local.refuse k) e p q = Reason.meets e (p q)
-reason-lifted b c into n g Q u ws (Local.give r a) e p q = tt
-reason-lifted b c into n g Q u ws Local.acked e p q = tt
-reason-lifted b c into n g Q u ws (Local.due a w) e p q = tt
-
-reason-heeded : (b : Bench) → Sound b → (g : Gateway) (c : Call) → judged b c ≡ 0 → {v : Whom} → Aim b c v → ReasonT b c (heeded b g c v)
-unfolding heeded ReasonT
-reason-heeded b ok g c e (Aim.nowhere p q) = absurd (never-nobody b c e p q)
-reason-heeded b ok g c e (Aim.desk p q) =
-    reason-lifted b c fromDesk hub g _ _ _ _ e (fine-atHub b (g .nodes hub) (g .name) c) (suits-hub b c e p q)
-reason-heeded b ok g c e (Aim.reader p) =
-    reason-lifted b c (setReader (named c)) (named c) g _ _ _ _ e (fine-atReader b (named c) (g .nodes (named c)) (g .reader (named c)) c)
+pub fine-heeded : (b : Bench) → Sound b → (g : Gateway) (c : Call) → judged b c ≡ 0 → {v : Whom} → Aim b c v
+    → FineT (roomlessOf b (g .nodes (named c)) (g .reader (named c)) c) (heeded b g c v)
+unfolding heeded
+fine-heeded b ok g c e (Aim.nowhere p q) = absurd (never-nobody b c e p q)
+fine-heeded b ok g c e (Aim.desk p q) =
+    rw p (fine-lifted fromDesk hub g _ _ _ _ _ (fine-atHub b (g .nodes hub) (g .reader hub) (g .name) c p) (suits-hub b c e p q))
+fine-heeded b ok g c e (Aim.reader p) =
+    fine-lifted (setReader (named c)) (named c) g _ _ _ _ _ (fine-atReader b (g .nodes (named c)) (g .reader (named c)) c)
     (suits-reader b ok c e p)
 
-reason-tried : (b : Bench) → Sound b → (g : Gateway) (c : Call) → ReasonT b c (tried b g c)
-unfolding tried ReasonT
-reason-tried b ok g c = go (eqb (judged b c) 0) refl (judged-early b c)
-  where
-    go : (t : Bool) → eqb (judged b c) 0 ≡ t → (t || within 3 11 (judged b c)) ≡ true
-        → ReasonT b c (cond t (heeded b g c (whom b c)) (Try.refuse (judged b c)))
-    go true e p = reason-heeded b ok g c (eqb-true (judged b c) 0 e) (aim b c)
-    go false e p = Reason.says refl p
-
--- the number of a refusal is one of the table's; 13 says that an answer was due that has no room
-pub data Refusal (b : Bench) (g : Gateway) (c : Call) (k : ℕ) : Type 0 where
-  before : Reason b c k → tried b g c ≡ Try.refuse k → Refusal b g c k
-  noRoom : (n : ℕ) (h : Gateway) (w : List ℕ) → k ≡ 13 → tried b g c ≡ Try.due n h w → fits b n (join n w h) ≡ false → Refusal b g c k
-
-refusal-roomed : (b : Bench) (g : Gateway) (c : Call) (k n : ℕ) (h : Gateway) (w : List ℕ) → tried b g c ≡ Try.due n h w
-    → (t : Bool) → fits b n (join n w h) ≡ t → (roomed t g (join n w h)) .said ≡ refused k → Refusal b g c k
-unfolding roomed
-refusal-roomed b g c k n h w e true p q = absurd (let z : _≡_ {A = ℕ} 0 1 = cc in omega arith)
-refusal-roomed b g c k n h w e false p q = Refusal.noRoom n h w (let r : 13 ≡ k = cc in sym r) e p
-
-refusal-tried : (b : Bench) (g : Gateway) (c : Call) (k : ℕ) (t : Try) → tried b g c ≡ t → ReasonT b c t → (settled b g t) .said ≡ refused k
-    → Refusal b g c k
-unfolding settled ReasonT
-refusal-tried b g c k (Try.refuse m) e p q =
-    let r : m ≡ k = cc in Refusal.before (subst (Reason b c) r p) (e ∙ ap (λ (j : ℕ). Try.refuse j) r)
-refusal-tried b g c k (Try.give r h) e p q = absurd (let z : _≡_ {A = ℕ} 0 1 = cc in omega arith)
-refusal-tried b g c k (Try.due n h w) e p q = refusal-roomed b g c k n h w e (fits b n (join n w h)) refl q
-
-pub refusals : (b : Bench) → Sound b → (g : Gateway) (c : Call) (k : ℕ) → (step b g c) .said ≡ refused k → Refusal b g c k
-unfolding step
-refusals b ok g c k e = refusal-tried b g c k (tried b g c) refl (reason-tried b ok g c) e
-
--- so it is 3 to 16
 within-both : (a z k : ℕ) → within a z k ≡ true → (a ≤ k) × (k ≤ z)
 within-both a z k e = let p = and-true (leb a k) (leb k z) e in (leb-true a k (p .0), leb-true k z (p .1))
 
+-- a refusal room aside: 3 to 16, but not 13
+abbrev Aside : ℕ → Type 0
+Aside k = (3 ≤ k) × (k ≤ 16) × (k ≡ 13 → ⊥)
+
+AsideT : Try → Type 0
+AsideT (Try.refuse k) = Aside k
+AsideT (Try.give r h) = Unit
+AsideT (Try.due n h w) = Unit
+
+aside-late : (k : ℕ) (t : Try) → FineT k t → AsideT t
+unfolding FineT AsideT late
+aside-late k (Try.refuse j) p =
+    let q = and-true (within 12 16 j) _ (p .0) in
+    let r = within-both 12 16 j (q .0) in
+    (omega arith, omega arith, eqb-false j 13 (not-true _ (q .1)))
+aside-late k (Try.give r h) p = tt
+aside-late k (Try.due n h w) p = tt
+
+aside-tried : (b : Bench) → Sound b → (g : Gateway) (c : Call) → AsideT (tried b g c)
+unfolding tried AsideT
+aside-tried b ok g c = go (eqb (judged b c) 0) refl (judged-early b c)
+  where
+    go : (t : Bool) → eqb (judged b c) 0 ≡ t → (t || within 3 11 (judged b c)) ≡ true
+        → AsideT (cond t (heeded b g c (whom b c)) (Try.refuse (judged b c)))
+    go true e p = aside-late _ _ (fine-heeded b ok g c (eqb-true (judged b c) 0 e) (aim b c))
+    go false e p = let r = within-both 3 11 (judged b c) p in (omega arith, omega arith, λ z. omega arith)
+
+-- an answer is due that has no room
+abbrev pub Roomless : Bench → Gateway → Call → Type 0
+Roomless b g c = (n : ℕ) × (h : Gateway) × (w : List ℕ) × (tried b g c ≡ Try.due n h w) × (fits b n (join n w h) ≡ false)
+
+-- the number of a refusal is one of the table's; 13 says that an answer was due that has no room
+refusals : (b : Bench) → Sound b → (g : Gateway) (c : Call) (k : ℕ) → (step b g c) .said ≡ refused k → Aside k ⊎ ((k ≡ 13) × Roomless b g c)
+unfolding step settled roomed AsideT
+refusals b ok g c k e = go (tried b g c) refl (aside-tried b ok g c) e
+  where
+    due : (n : ℕ) (h : Gateway) (w : List ℕ) → tried b g c ≡ Try.due n h w → (t : Bool) → fits b n (join n w h) ≡ t
+        → (roomed t g (join n w h)) .said ≡ refused k → Aside k ⊎ ((k ≡ 13) × Roomless b g c)
+    due n h w e true f q = absurd (let z : _≡_ {A = ℕ} 0 1 = cc in omega arith)
+    due n h w e false f q = let r : 13 ≡ k = cc in inr (sym r, (n, h, w, e, f))
+
+    go : (t : Try) → tried b g c ≡ t → AsideT t → (settled b g t) .said ≡ refused k → Aside k ⊎ ((k ≡ 13) × Roomless b g c)
+    go (Try.refuse j) e p q = let r : j ≡ k = cc in inl (rw r at p)
+    go (Try.give r h) e p q = absurd (let z : _≡_ {A = ℕ} 0 1 = cc in omega arith)
+    go (Try.due n h w) e p q = due n h w e (fits b n (join n w h)) refl q
+
+-- so it is 3 to 16
 pub judged-low : (b : Bench) (c : Call) → judged b c ≤ 11
 judged-low b c = go (eqb (judged b c) 0) refl (judged-early b c)
   where
@@ -165,17 +165,15 @@ judged-low b c = go (eqb (judged b c) 0) refl (judged-early b c)
     go false e p = within-both 3 11 (judged b c) p .1
 
 pub refused-numbers : (b : Bench) → Sound b → (g : Gateway) (c : Call) (k : ℕ) → (step b g c) .said ≡ refused k → (3 ≤ k) × (k ≤ 16)
-unfolding late
-refused-numbers b ok g c k e = go (refusals b ok g c k e)
-  where
-    go : Refusal b g c k → (3 ≤ k) × (k ≤ 16)
-    go (Refusal.before (Reason.says p q) r) = omega (arith, within-both 3 11 k q)
-    go (Refusal.before (Reason.meets p q) r) = omega (arith, within-both 12 16 k (and-true (within 12 16 k) _ q .0))
-    go (Refusal.noRoom n h w p q r) = omega arith
+refused-numbers b ok g c k e = elim (refusals b ok g c k e) [
+  | inl p ↦ (p .0, p .1)
+  | inr p ↦ omega (arith, p .0)
+]
 
 -- ---- the other way round: what is wrong is said
 -- a number that the call alone gives is given, and is the lowest of those that apply
-pub judged-given : (b : Bench) (g : Gateway) (c : Call) → (judged b c ≡ 0 → ⊥) → step b g c ≡ record { said = refused (judged b c); next = g }
+pub judged-given : (b : Bench) (g : Gateway) (c : Call) → (judged b c ≡ 0 → ⊥) → step b g c ≡ record
+    { said = refused (judged b c); next = g }
 unfolding step tried settled
 judged-given b g c h = rw (ne-eqb (judged b c) 0 h)
 
@@ -192,21 +190,11 @@ unfolding step settled roomed
 no-room b g c n h w e f = rw e (rw f)
 
 -- 13 is given for no other cause ..
-not-early : within 3 11 13 ≡ false
-not-early = refl
-
-not-late : late 13 ≡ false
-unfolding late
-not-late = refl
-
-pub only-no-room : (b : Bench) → Sound b → (g : Gateway) (c : Call) → (step b g c) .said ≡ refused 13
-    → (n : ℕ) × (h : Gateway) × (w : List ℕ) × (tried b g c ≡ Try.due n h w) × (fits b n (join n w h) ≡ false)
-only-no-room b ok g c e = go (refusals b ok g c 13 e)
-  where
-    go : Refusal b g c 13 → (n : ℕ) × (h : Gateway) × (w : List ℕ) × (tried b g c ≡ Try.due n h w) × (fits b n (join n w h) ≡ false)
-    go (Refusal.before (Reason.says p q) r) = absurd (true≢false (sym q ∙ not-early))
-    go (Refusal.before (Reason.meets p q) r) = absurd (true≢false (sym q ∙ not-late))
-    go (Refusal.noRoom n h w p q r) = (n, h, w, q, r)
+pub only-no-room : (b : Bench) → Sound b → (g : Gateway) (c : Call) → (step b g c) .said ≡ refused 13 → Roomless b g c
+only-no-room b ok g c e = elim (refusals b ok g c 13 e) [
+  | inl p ↦ absurd (p .2 refl)
+  | inr p ↦ p .1
+]
 
 -- .. and in a state that keeps the bounds never while the node's held words and the new answer are within its share
 pub never-within : (b : Bench) → Sound b → (g : Gateway) (c : Call) → Bounds b g → (step b g c) .said ≡ refused 13

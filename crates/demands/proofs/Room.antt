@@ -1,23 +1,17 @@
 -- Both bounds hold in every state that calls reach, and an answer within its node's share is never refused for room.
 -- Assumes nothing.
-use Prim.Native.Nat.{ℕ, zero, suc, _+_, _*_, _≤_, max}
-use mathlib.Core.Path.{_≡_, refl, sym, subst}
-use mathlib.Core.Logic.{_⊎_, inl, inr}
-use mathlib.Core.Bool.{Bool, true, false, cond, and-eq-true-iff, false≢true}
-use mathlib.Core.List.{List, [], _∷_, _++_}
-use native.Mathlib.Omega.{arith}
-use native.Mathlib.Nat.{le-refl, le-trans, add-le-add, max-zero}
-use lib.Dec.{eqb}
-use lib.ListN.{drop}
-use borrow.Author.Tests.{eqb-true, eq-eqb, ne-eqb, leb-true, le-leb}
-use Rattle.meaning.specs.Bench.{Bench, hub}
-use Rattle.meaning.specs.Packet.{wordNo}
-use Rattle.meaning.specs.Gateway.{Node, Gateway, put, joined, join, taken, Sweep, none, clearing, resetting, emptied, swept, fresh, setNode, setReader}
-use Rattle.meaning.specs.Room.{added, held, shareOf, charge, total, charges, fits}
-use Rattle.meaning.specs.Call.{Call, Try, Local, Whom, nobody, gateway, one, lifted, heeded, tried, settled, roomed, step, run, fromDesk, judged, whom, refused, queued}
+use Rattle.units.proofs.Common.{sym, _≡_, refl, subst, inl, inr, _⊎_, true, false, Bool, cond, false≢true, List, [], _∷_, _++_, ℕ, _≤_, _+_}
+use Rattle.units.proofs.Common.{suc, _*_, zero, max, le-refl, arith, eqb, drop, eq-eqb, ne-eqb, le-leb, eqb-true, leb-true}
+use mathlib.Core.Bool.{and-eq-true-iff}
+use native.Mathlib.Nat.{le-trans, add-le-add, max-zero}
+use Rattle.meaning.proofs.Terms.{Bench, hub, wordNo, Node, Gateway, put, joined, join, taken, Sweep, none, clearing, resetting, emptied}
+use Rattle.meaning.proofs.Terms.{swept, fresh, setNode, setReader, added, held, shareOf, charges, fits, Call, Try, Local, Whom, nobody}
+use Rattle.meaning.proofs.Terms.{gateway, one, lifted, heeded, tried, settled, roomed, step, run, fromDesk, judged, whom, refused}
+use Rattle.meaning.specs.Room.{charge, total}
 use Rattle.demands.specs.Sound.{Sound}
 use Rattle.demands.specs.Demand.{Bounds}
 use Rattle.demands.specs.Counts.{isSweep}
+use Rattle.demands.proofs.Local.{cond-all}
 
 -- ---- a function put at one place
 pub put-same : {A : Type 0} (n : ℕ) (a : A) (f : ℕ → A) → put n a f n ≡ a
@@ -180,11 +174,7 @@ bounds-heeded b g c (one n) i =
 
 pub bounds-tried : (b : Bench) (g : Gateway) (c : Call) → Bounds b g → BoundsT b (tried b g c)
 unfolding tried BoundsT
-bounds-tried b g c i = go (eqb (judged b c) 0)
-  where
-    go : (t : Bool) → BoundsT b (cond t (heeded b g c (whom b c)) (Try.refuse (judged b c)))
-    go true = bounds-heeded b g c (whom b c) i
-    go false = tt
+bounds-tried b g c i = cond-all (BoundsT b) (eqb (judged b c) 0) _ _ (bounds-heeded b g c (whom b c) i) tt
 
 bounds-roomed : (b : Bench) (n : ℕ) (w : List ℕ) (g h : Gateway) → Bounds b g → Bounds b h
     → (t : Bool) → fits b n (join n w h) ≡ t → Bounds b ((roomed t g (join n w h)) .next)
@@ -210,14 +200,6 @@ bounds-from b (c ∷ cs) g i = bounds-from b cs ((step b g c) .next) (bounds-ste
 
 pub bounds-run : (b : Bench) → Sound b → (memory : ℕ → List ℕ) (cs : List Call) → Bounds b (run b (fresh memory) cs)
 bounds-run b ok memory cs = bounds-from b cs (fresh memory) (bounds-fresh b ok memory)
-
--- an answer due within its node's share is given
-pub given-within : (b : Bench) → Sound b → (g : Gateway) (c : Call) → Bounds b g → (n : ℕ) (h : Gateway) (w : List ℕ)
-    → tried b g c ≡ Try.due n h w → Within b n w h → step b g c ≡ record { said = queued; next = join n w h }
-unfolding step settled roomed BoundsT
-given-within b ok g c i n h w e le =
-    let j : Bounds b h = subst (BoundsT b) e (bounds-tried b g c i) in
-    rw e (rw (fits-within b ok n w h j le))
 
 -- a refusal changes nothing
 unchanged-roomed : (t : Bool) (g h : Gateway) (k : ℕ) → (roomed t g h) .said ≡ refused k → (roomed t g h) .next ≡ g

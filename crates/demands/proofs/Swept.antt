@@ -1,25 +1,16 @@
 -- "For 61 and 79 room is judged after emptying, so it is always there": such a command, if nothing is wrong with it, is obeyed.
 -- Assumes nothing.
-use Prim.Native.Nat.{ℕ}
-use mathlib.Core.Path.{_≡_, refl, sym, ap, _∙_, subst}
-use mathlib.Core.Logic.{inl, inr}
-use mathlib.Core.Bool.{true, false, false≢true, true≢false}
-use mathlib.Core.List.{List}
-use native.Mathlib.Omega.{arith}
-use native.Mathlib.Decide.{ℕ-discrete}
-use borrow.Author.Tests.{eqb-true, eq-eqb}
+use Rattle.units.proofs.Common.{sym, _∙_, _≡_, refl, ap, subst, inl, inr, true, false, false≢true, true≢false, List, ℕ, ℕ-discrete, arith}
+use Rattle.units.proofs.Common.{eq-eqb, eqb-true}
 use Rattle.units.specs.declared.Form.{Form}
 use Rattle.units.specs.declared.stamp.Stamp.{Stamp}
-use Rattle.meaning.specs.Bench.{Bench, hub}
-use Rattle.meaning.specs.Gateway.{Gateway, Sweep, none}
-use Rattle.meaning.specs.Room.{shareOf}
-use Rattle.meaning.specs.Table.{table, lookup, rowOf, suits}
+use Rattle.meaning.proofs.Terms.{Bench, hub, Gateway, Sweep, none, shareOf, table, lookup, rowOf, suits, Call, command, Local, Try, Whom}
+use Rattle.meaning.proofs.Terms.{nobody, gateway, one, Desk, refused, queued, Outcome, judged, kindIn, whom, lifted, fromDesk, heeded}
+use Rattle.meaning.proofs.Terms.{tried, roomed, settled, step}
 use Rattle.meaning.specs.declared.table.OfGateway.{OfGateway}
 use Rattle.meaning.specs.declared.table.OfGateway.the-variants.{ResetGateway, Clear}
 use Rattle.meaning.specs.declared.table.Kind.{Kind}
 use Rattle.meaning.specs.declared.table.Kind.the-variants as K
-use Rattle.meaning.specs.Call.{Call, command, Local, Try, Whom, nobody, gateway, one, Desk, refused, queued, Outcome}
-use Rattle.meaning.specs.Call.{judged, kindIn, whom, lifted, fromDesk, heeded, tried, roomed, settled, step}
 use Rattle.demands.specs.Sound.{Sound}
 use Rattle.demands.specs.Demand.{Bounds}
 use Rattle.demands.specs.Counts.{isSweep, broomOf, broomKind, broomCall, broomFor, Sweeps}
@@ -45,8 +36,7 @@ unfolding lifted SweepT Brooms fromDesk shareOf
 sweep-hub b ok z g (Local.refuse k) e = e
 sweep-hub b ok z g (Local.give r d) e = e .1
 sweep-hub b ok z g Local.acked e = e
-sweep-hub b ok z g (Local.due d w) e =
-    λ s. omega (arith, ok, e .1 s, swept-empty (d .broom) (g .nodes hub) (ap isSweep (e .0) ∙ s))
+sweep-hub b ok z g (Local.due d w) e = λ s. omega (arith, ok, e .1 s, swept-empty (d .broom) (g .nodes hub) (ap isSweep (e .0) ∙ s))
 
 sweep-heeded : (b : Bench) → Sound b → (g : Gateway) (c : Call) (v : Whom) → SweepT b (broomFor b c v) (heeded b g c v)
 unfolding heeded broomFor
@@ -61,7 +51,8 @@ sweep-settled b ok z g (Try.refuse k) s i e = absurd (true≢false (sym s ∙ e)
 sweep-settled b ok z g (Try.give r h) s i e = absurd (true≢false (sym s ∙ e))
 sweep-settled b ok z g (Try.due n h w) s i e = rw (fits-within b ok n w h i (e s))
 
-pub sweeping-given : (b : Bench) → Sound b → (g : Gateway) → Bounds b g → (c : Call) → judged b c ≡ 0 → isSweep (broomFor b c (whom b c)) ≡ true
+pub sweeping-given : (b : Bench) → Sound b → (g : Gateway) → Bounds b g → (c : Call) → judged b c ≡ 0 → isSweep (broomFor b c (whom b c)) ≡
+    true
     → (step b g c) .said ≡ queued
 unfolding step tried
 sweeping-given b ok g i c e s =

@@ -1,19 +1,10 @@
 -- "The lowest number that applies is given", of all the numbers that a call meets.
 -- Assumes nothing.
-use Prim.Native.Nat.{ℕ, _≤_}
-use mathlib.Core.Path.{_≡_, refl, sym, ap, _∙_, subst}
-use mathlib.Core.Bool.{true}
-use mathlib.Core.List.{List, [], _∷_}
-use native.Mathlib.Omega.{arith}
-use native.Mathlib.Nat.{le-refl}
-use lib.Dec.{leb}
-use borrow.Author.Tests.{leb-true, le-leb}
-use Rattle.units.proofs.Choice.{and-true}
-use Rattle.meaning.specs.Refusal.{Doubts, refusal}
-use Rattle.meaning.specs.Bench.{Bench}
-use Rattle.meaning.specs.Command.{frameDoubts, whoDoubts, limitDoubts, unusedDoubts, rowDoubts, commandDoubts}
-use Rattle.meaning.specs.Gateway.{Gateway}
-use Rattle.meaning.specs.Call.{Call, command, check, arrive, leave, collect, acknowledge, Said, refused, answered, queued, asked, step}
+use Rattle.units.proofs.Common.{sym, _∙_, _≡_, refl, ap, subst, true, List, [], _∷_, ℕ, _≤_, le-refl, arith, leb, le-leb, leb-true}
+use Rattle.units.proofs.Common.{and-true}
+use Rattle.meaning.proofs.Terms.{Doubts, refusal, Bench, frameDoubts, whoDoubts, limitDoubts, unusedDoubts, rowDoubts, commandDoubts}
+use Rattle.meaning.proofs.Terms.{Gateway, Call, command, check, arrive, leave, collect, acknowledge, Said, refused, answered, queued, asked}
+use Rattle.meaning.proofs.Terms.{step}
 use Rattle.demands.specs.Sound.{Sound}
 use Rattle.demands.specs.Wrong.{stateDoubts, wrong}
 use Rattle.demands.specs.Order.{doubts, numbers, rise, Applies, Lowest}
@@ -27,9 +18,11 @@ said-number (answered r) h = absurd (omega arith)
 said-number queued h = absurd (omega arith)
 
 -- so it is where the numbers never fall, and what is said is by the first that applies
-pub lowest-by : (s : Said) (ds : Doubts) → rise 1 (numbers (doubts ds)) ≡ true → ((k : ℕ) → s ≡ refused k → 1 ≤ k) → number s ≡ refusal ds → Lowest s ds
+pub lowest-by : (s : Said) (ds : Doubts) → rise 1 (numbers (doubts ds)) ≡ true → ((k : ℕ) → s ≡ refused k → 1 ≤ k) → number s ≡ refusal ds →
+    Lowest s ds
 lowest-by s ds up some e = record {
-  applies = λ k h. subst (λ (n : ℕ). Applies n (doubts ds)) (is k h) (refusal-applies ds (rise-positive 1 _ (le-refl 1) up) (λ z. omega (arith, is k h, some k h)));
+  applies = λ k h. subst (λ (n : ℕ). Applies n (doubts ds)) (is k h) (refusal-applies ds (rise-positive 1 _ (le-refl 1) up)
+      (λ z. omega (arith, is k h, some k h)));
   lowest = λ k h n a. omega (arith, is k h, refusal-lowest ds up n a);
   refuses = λ n a. (number s, said-number s (omega (arith, refusal-lowest ds up n a)));
 }
@@ -57,4 +50,5 @@ wrong-rise b g (acknowledge n h) = refl
 
 -- "The lowest number that applies is given": 3 to 16
 pub said-lowest : (b : Bench) → Sound b → (g : Gateway) (c : Call) → Lowest ((step b g c) .said) (wrong b g c)
-said-lowest b ok g c = lowest-by _ _ (rise-down 1 3 _ (omega arith) (wrong-rise b g c)) (λ k e. omega (arith, refused-numbers b ok g c k e)) (number-step b ok g c)
+said-lowest b ok g c = lowest-by _ _ (rise-down 1 3 _ (omega arith) (wrong-rise b g c)) (λ k e. omega (arith, refused-numbers b ok g c k e))
+    (number-step b ok g c)

@@ -15,7 +15,8 @@ use Rattle.meaning.specs.declared.table.OnPlaque.{OnPlaque}
 use Rattle.meaning.specs.declared.table.OnPlaque.the-variants.{Fill, Read, Write, ReadId, Search}
 use Rattle.meaning.specs.declared.table.Kind.{Kind}
 use Rattle.meaning.specs.declared.table.Kind.the-variants as K
-use Rattle.meaning.specs.Call.{Call, command, check, arrive, leave, collect, acknowledge, Try, asked, tried, named, repeats, kindIn, commandIn}
+use Rattle.meaning.specs.Call.{Call, command, check, arrive, leave, collect, acknowledge, Try, asked, tried, named, repeats, kindIn}
+use Rattle.meaning.specs.Call.{commandIn}
 
 -- ---- 12: "range runs past the plaque"
 -- "04 to 06 need start + size at most the plaque's length"

@@ -1,19 +1,9 @@
 -- A name in its 64 bytes: one that is in order, and one made of bytes that came.
 -- Assumes nothing.
-use Prim.Native.Nat.{ℕ, zero, suc, _≤_}
-use mathlib.Core.Path.{_≡_, refl, ap, _∙_}
-use mathlib.Core.Bool.{true}
-use mathlib.Core.List.{List, [], _∷_, _++_, append-nil}
-use native.Mathlib.Omega.{arith}
-use lib.Dec.{leb}
-use lib.ListN.{length, take, drop, replicate, length-take, length-drop, length-append, drop-of-length-le}
-use lib.Seq.{take-at, drop-at}
-use borrow.Author.Tests.{leb-true, le-leb}
-use Rattle.units.specs.Count.{every}
-use Rattle.units.specs.Packing.{onto}
-use Rattle.units.proofs.Choice.{and-true}
-use Rattle.units.proofs.PackingLaws.{length-onto}
-use Rattle.state.specs.Consistent.{zeros, nameOk}
+use Rattle.units.proofs.Common.{_∙_, _≡_, refl, ap, true, List, [], _∷_, _++_, append-nil, ℕ, _≤_, suc, zero, arith, leb, length, drop}
+use Rattle.units.proofs.Common.{take, length-drop, replicate, drop-of-length-le, length-append, length-take, take-at, drop-at, le-leb}
+use Rattle.units.proofs.Common.{leb-true, every, onto, and-true, length-onto}
+use Rattle.state.proofs.Terms.{zeros, nameOk}
 use Rattle.state.specs.declared.Name.{Name}
 use Rattle.state.proofs.Lists.{both}
 use Rattle.desk.specs.Ruled.{titleOf}

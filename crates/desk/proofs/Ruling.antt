@@ -1,24 +1,12 @@
 -- The gateway's own commands: each way that the code returns is the definition's local outcome.
 -- Assumes nothing.
-use Prim.Native.Nat.{ℕ, _≤_}
-use mathlib.Core.Path.{_≡_, refl, sym, ap, _∙_, subst}
-use mathlib.Core.Bool.{true, not}
-use mathlib.Core.List.{List, [], _∷_}
-use native.Mathlib.Omega.{arith}
-use lib.Dec.{T, eqb}
-use lib.ListN.{length, take}
+use Rattle.units.proofs.Common.{sym, _∙_, _≡_, refl, ap, subst, true, not, List, [], _∷_, ℕ, _≤_, arith, eqb, T, length, take, every}
+use Rattle.units.proofs.Common.{bytesOf, onto, keys}
 use types.Run.{OneOf}
 use denote.Enum.Declared.{tagOf}
-use Rattle.units.specs.Count.{every}
-use Rattle.units.specs.Packing.{bytesOf, onto}
 use Rattle.units.specs.declared.Words.{Words}
 use Rattle.units.specs.declared.stamp.Stamp.{Stamp}
-use Rattle.units.proofs.Arms.{keys}
-use Rattle.meaning.specs.Bench.{full, hub}
-use Rattle.meaning.specs.Response.{responseBody, wellFormed}
-use Rattle.meaning.specs.Gateway.{emptied, swept}
-use Rattle.meaning.specs.Table.{rowOf, carried}
-use Rattle.meaning.specs.Call.{Local, Desk, answer, ruled, governed}
+use Rattle.meaning.proofs.Terms.{full, hub, responseBody, wellFormed, emptied, swept, rowOf, carried, Local, Desk, answer, ruled, governed}
 use Rattle.meaning.specs.declared.table.OfGateway.{OfGateway}
 use Rattle.meaning.specs.declared.table.OfGateway.the-variants.{GetName, SetName, Initialise, ResetGateway, Clear}
 use Rattle.meaning.specs.declared.table.Kind.{Kind}
@@ -26,7 +14,7 @@ use Rattle.meaning.specs.declared.table.Kind.the-variants as K
 use Rattle.meaning.specs.declared.packet.Command.{Command}
 use Rattle.meaning.specs.declared.packet.Response.{Response}
 use Rattle.meaning.proofs.table.Kind.{the-type}
-use Rattle.state.specs.Consistent.{nameOk}
+use Rattle.state.proofs.Terms.{nameOk}
 use Rattle.state.specs.declared.Name.{Name}
 use Rattle.store.specs.Swept.{broomOf}
 use Rattle.store.specs.declared.Broom.{Broom}
@@ -47,7 +35,8 @@ saysOf broom name w = Local.due (record { broom = broomOf broom; title = titleOf
 
 -- ---- an answer that is due: once for all commands
 rules-due : {l : Local Desk} {out : List ℕ} {d : Ruled} {name : Name} {broom : Broom} {w : Words} {r : Response} {bs : List ℕ}
-    → (count : ℕ) (t : Stamp) (echo : ℕ) → r ≡ good count hub t echo → Says full r bs (w .0) out → d ≡ dueOf name broom w → nameOk name ≡ true → length (name .bytes) ≡ 64
+    → (count : ℕ) (t : Stamp) (echo : ℕ) → r ≡ good count hub t echo → Says full r bs (w .0) out → d ≡ dueOf name broom w → nameOk name ≡
+    true → length (name .bytes) ≡ 64
     → saysOf broom name (responseBody (good count hub t echo) bs) ≡ l → Rules full l d out
 unfolding told Formed
 rules-due {l} {out} {d} {name} {broom} {w} {r} {bs} count t echo e s f o wide q =
@@ -99,7 +88,8 @@ module _ (count : ℕ) (name : Name) (t : Stamp) (k : OfGateway) (m : Command) (
 
   -- 21: bytes are what came, over zeros
   pub renamed : {bytes : List ℕ} → k ≡ SetName → r ≡ good count hub t 0x21 → Says full r [] (w .0) out
-      → bytes ≡ onto (bytesOf ws) (take (m .size) blank) → d ≡ dueOf (written (m .size) bytes) B.Nothing w → Governs full count name t (K.Gateway k) m ws d out
+      → bytes ≡ onto (bytesOf ws) (take (m .size) blank) → d ≡ dueOf (written (m .size) bytes) B.Nothing w → Governs full count name t
+      (K.Gateway k) m ws d out
   unfolding governed ruled answer broomOf loadOf
   renamed e f s u p =
       let z = name-whole m ws g e in
@@ -111,7 +101,8 @@ module _ (count : ℕ) (name : Name) (t : Stamp) (k : OfGateway) (m : Command) (
 
   -- 60
   pub nameless : {n : Name} → k ≡ Initialise → r ≡ good count hub t 0x60 → Says full r [] (w .0) out
-      → n ≡ record { length = record { 0 = 0 }; bytes = blank } → d ≡ dueOf n B.Nothing w → Governs full count name t (K.Gateway k) m ws d out
+      → n ≡ record { length = record { 0 = 0 }; bytes = blank } → d ≡ dueOf n B.Nothing w → Governs full count name t (K.Gateway k) m ws d
+      out
   unfolding governed ruled answer broomOf nameOk every
   nameless e f s q p =
       rules-due count t 0x60 f s (p ∙ ap (λ (n : Name). dueOf n B.Nothing w) q) refl refl

@@ -9,6 +9,7 @@ use meaning::table::OfGateway;
 use state::Name;
 use store::Broom;
 use units::Bytes;
+use units::HUB;
 use units::Words;
 use units::packing::unpack;
 use units::stamp::Stamp;
@@ -65,14 +66,14 @@ fn rule(
         OfGateway::GetName => {
             let bytes = name.bytes;
             let length = name.length.0 as usize;
-            let said = say(good(count, 32, t, 0x11), &bytes[..length], answer);
+            let said = say(good(count, HUB, t, 0x11), &bytes[..length], answer);
             due(name, Broom::Nothing, said)
         }
         OfGateway::SetName => {
             let mut bytes = [0u8; 64];
             let length = m.size as usize;
             unpack(words, &mut bytes[..length]);
-            let said = say(good(count, 32, t, 0x21), b"", answer);
+            let said = say(good(count, HUB, t, 0x21), b"", answer);
             let title = Name {
                 length: Bytes(m.size),
                 bytes,
@@ -80,15 +81,15 @@ fn rule(
             due(title, Broom::Nothing, said)
         }
         OfGateway::Initialise => {
-            let said = say(good(count, 32, t, 0x60), b"", answer);
+            let said = say(good(count, HUB, t, 0x60), b"", answer);
             due(no_name(), Broom::Nothing, said)
         }
         // Its own answer is the first after the counts start again.
-        OfGateway::ResetGateway => due(name, Broom::Reset, say(good(0, 32, t, 0x61), b"", answer)),
+        OfGateway::ResetGateway => due(name, Broom::Reset, say(good(0, HUB, t, 0x61), b"", answer)),
         OfGateway::Clear => due(
             name,
             Broom::Clear,
-            say(good(count, 32, t, 0x79), b"", answer),
+            say(good(count, HUB, t, 0x79), b"", answer),
         ),
     }
 }

@@ -1,17 +1,16 @@
 -- Every row of the closed cases of the console holds; the checker computes them.
 -- Assumes nothing.
-use Prim.Native.Nat.{ℕ}
-use mathlib.Core.Path.{_≡_, refl}
-use mathlib.Core.List.{[]}
-use Rattle.meaning.specs.Cases.{unheld}
+use Rattle.units.proofs.Common.{_≡_, refl, [], ℕ}
+use Rattle.meaning.proofs.Terms.{unheld}
 use Rattle.meaning.proofs.Opened.{calls}
-use Rattle.state.specs.Layout.{laid, allLaid, storeOf}
+use Rattle.state.proofs.Terms.{laid, allLaid, storeOf}
 use Rattle.text.specs.Text.{hexOf, decimalWithin, decimalOf, wordsLine}
 use Rattle.listing.specs.Lines.{numberLine}
 use Rattle.listing.specs.Listing.{blank}
 use Rattle.dialog.specs.Fields.{before, fields, decimalFrom, numberOk, hexFrom, wordOk, bytesOk, pairs, bytesOf}
 use Rattle.dialog.specs.Spoken.{numbersOk, commandOk, checkOk, arriveOk, leaveOk, collectOk, acknowledgeOk, storeOk, callBy, spoken}
-use Rattle.dialog.specs.Dialog.{collectedLine, saidLine, unreadableLine, storeLine, firstNodes, inOrder, replyTo, linesOf, replies, conversation}
+use Rattle.dialog.specs.Dialog.{collectedLine, saidLine, unreadableLine, storeLine, firstNodes, inOrder, replyTo, linesOf, replies}
+use Rattle.dialog.specs.Dialog.{conversation}
 use Rattle.dialog.specs.Cases.{lineCases, callCases, numberCases, wordCases, byteCases, outCases, lookCases, storeCases, talkCases}
 
 -- what the rows compute with: to name it on a line of `unfolding` opens all that its own line names

@@ -1,19 +1,10 @@
 -- Laws of fields and numbers: a list by its first element and the rest, so that a loop's invariant speaks of what is left.
 -- Assumes nothing.
-use Prim.Native.Nat.{ℕ, zero, suc, _+_, _-_, _*_, _^_, _≤_, _<_}
-use mathlib.Core.Path.{_≡_, refl, sym, ap, _∙_}
-use mathlib.Core.Bool.{Bool, true, false, cond, _&&_, true≢false, false≢true}
-use mathlib.Core.List.{List, [], _∷_}
-use native.Mathlib.Omega.{arith}
-use native.Mathlib.Numerals.{add-one}
+use Rattle.units.proofs.Common.{sym, _∙_, _≡_, refl, ap, true, false, Bool, cond, _&&_, false≢true, true≢false, List, [], _∷_, ℕ, _≤_, _-_}
+use Rattle.units.proofs.Common.{_+_, _<_, suc, _*_, zero, _^_, add-one, arith, eqb, leb, length, drop, getD, drop-of-length-le, drop-cons}
+use Rattle.units.proofs.Common.{eq-eqb, ne-eqb, le-leb, eqb-true, leb-true, every, within, yes-cond, no-cond, yes-and, and-true}
 use native.Mathlib.Nat.{pow-succ', pow-le-pow-right}
-use lib.Dec.{leb, eqb}
-use lib.ListN.{length, getD, drop, drop-of-length-le}
-use lib.Seq.{drop-cons}
-use borrow.Author.Tests.{eq-eqb, ne-eqb, le-leb, leb-true, eqb-true}
-use Rattle.units.specs.Count.{every, within}
-use Rattle.units.proofs.Choice.{yes-cond, no-cond, yes-and, and-true}
-use Rattle.meaning.specs.Call.{same}
+use Rattle.meaning.proofs.Terms.{same}
 use Rattle.dialog.specs.Fields.{before, fields, isDigit, decimalFrom, valueOf, numberOk}
 
 -- ---- answers of tests
@@ -52,7 +43,8 @@ module _ {A : Type 0} where
   pub every-split : (t : A → Bool) {xs ys : List A} {y : A} → xs ≡ y ∷ ys → every t xs ≡ true → (t y ≡ true) × (every t ys ≡ true)
   every-split t {xs} {ys} {y} e h = and-true (t y) (every t ys) (sym (every-cons t y ys) ∙ sym (ap (every t) e) ∙ h)
 
-  pub every-next : (t : A → Bool) (xs : List A) (i : ℕ) (d : A) → i < length xs → every t (drop i xs) ≡ (t (getD xs i d) && every t (drop (i + 1) xs))
+  pub every-next : (t : A → Bool) (xs : List A) (i : ℕ) (d : A) → i < length xs → every t (drop i xs) ≡
+      (t (getD xs i d) && every t (drop (i + 1) xs))
   unfolding every
   every-next t xs i d h = ap (every t) (next xs i d h)
 
@@ -122,7 +114,8 @@ unfolding fields before
 fields-more c cs f fs h e = no-cond _ (ne-eqb c 32 h) ∙ ap (before c) e
 
 -- ---- numbers
-pub decimal-next : (n : ℕ) (xs : List ℕ) (i : ℕ) → i < length xs → decimalFrom n (drop i xs) ≡ decimalFrom (n * 10 + (getD xs i 0 - 48)) (drop (i + 1) xs)
+pub decimal-next : (n : ℕ) (xs : List ℕ) (i : ℕ) → i < length xs → decimalFrom n (drop i xs) ≡ decimalFrom (n * 10 + (getD xs i 0 - 48))
+    (drop (i + 1) xs)
 unfolding decimalFrom
 decimal-next n xs i h = ap (decimalFrom n) (next xs i 0 h)
 

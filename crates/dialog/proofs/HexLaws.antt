@@ -1,20 +1,11 @@
 -- Laws of words and bytes in hexadecimal digits, and of a list stored to the front of a lent output.
 -- Assumes nothing.
-use Prim.Native.Nat.{ℕ, suc, _+_, _-_, _*_, _/_, _%_, _≤_, _<_}
-use mathlib.Core.Path.{_≡_, refl, sym, ap, _∙_}
-use mathlib.Core.Logic.{_⊎_, inl, inr, ⊎-elim}
-use mathlib.Core.Bool.{Bool, true, false, _&&_, _||_}
-use mathlib.Core.List.{List, [], _∷_}
-use native.Mathlib.Omega.{arith}
-use lib.Dec.{leb, eqb}
-use lib.ListN.{length, getD, drop, set, length-set, drop-of-length-le}
-use lib.Seq.{sets, set-out, take-nil}
-use borrow.Author.Tests.{le-leb, lt-leb, leb-true, eqb-true, eq-eqb}
-use Rattle.units.specs.Count.{every, within}
-use Rattle.units.specs.Word.{word}
-use Rattle.units.specs.Packing.{onto}
-use Rattle.units.proofs.Choice.{yes-cond, no-cond, yes-or, no-or, yes-and, and-true}
-use Rattle.meaning.specs.Call.{same}
+use Rattle.units.proofs.Common.{sym, _∙_, _≡_, refl, ap, ⊎-elim, inl, inr, _⊎_, true, false, Bool, _&&_, _||_, List, [], _∷_, ℕ, _≤_, _-_}
+use Rattle.units.proofs.Common.{_+_, _<_, suc, _*_, _%_, _/_, arith, eqb, leb, length, drop, getD, set, length-set, drop-of-length-le, sets}
+use Rattle.units.proofs.Common.{take-nil, eq-eqb, le-leb, eqb-true, leb-true, lt-leb, every, within, word, onto, yes-cond, no-cond, yes-or}
+use Rattle.units.proofs.Common.{no-or, yes-and, and-true}
+use lib.Seq.{set-out}
+use Rattle.meaning.proofs.Terms.{same}
 use Rattle.dialog.specs.Fields.{isDigit, isHex, hexDigit, hexFrom, wordOk, wordOf, dash, bytesOk, pairs, bytesOf}
 use Rattle.dialog.proofs.FieldLaws.{both, in-range, next, every-is}
 
@@ -102,7 +93,8 @@ of-bytes most f d e =
       digits = p .1;
     }
 
-pub bytes-if : (most : ℕ) (f : List ℕ) → same f dash ≡ false → 2 ≤ length f → length f % 2 ≡ 0 → length f ≤ 2 * most → every isHex f ≡ bytesOk most f
+pub bytes-if : (most : ℕ) (f : List ℕ) → same f dash ≡ false → 2 ≤ length f → length f % 2 ≡ 0 → length f ≤ 2 * most → every isHex f ≡
+    bytesOk most f
 unfolding bytesOk
 bytes-if most f d h e k =
     sym (no-or d ∙ yes-and (both (both (le-leb 2 (length f) h) (eq-eqb (length f % 2) 0 e)) (le-leb (length f) (2 * most) k)))
@@ -117,8 +109,7 @@ bytes-wider most wider f h e = by-dash (same f dash) refl
   where
     by-dash : (t : Bool) → same f dash ≡ t → bytesOk wider f ≡ true
     by-dash true d = bytes-dash wider f d
-    by-dash false d =
-        let b = of-bytes most f d e in sym (bytes-if wider f d (b .least) (b .even) (omega arith)) ∙ b .digits
+    by-dash false d = let b = of-bytes most f d e in sym (bytes-if wider f d (b .least) (b .even) (omega arith)) ∙ b .digits
 
 pub no-bytes : (f : List ℕ) → same f dash ≡ true → bytesOf f ≡ []
 unfolding bytesOf

@@ -1,32 +1,19 @@
 -- Laws of the calls of the table: numbers one after another, and what makes a line each call.
 -- Assumes nothing.
-use Prim.Native.Nat.{ℕ, _+_, _≤_, _<_}
-use mathlib.Core.Path.{_≡_, refl, sym, ap, _∙_}
-use mathlib.Core.Bool.{Bool, true, false, cond, _&&_, _||_, false≢true}
-use mathlib.Core.List.{List, [], _∷_, _++_}
-use native.Mathlib.Omega.{arith}
+use Rattle.units.proofs.Common.{sym, _∙_, _≡_, refl, ap, true, false, Bool, cond, _&&_, false≢true, _||_, List, [], _∷_, _++_, ℕ, _≤_, _+_}
+use Rattle.units.proofs.Common.{_<_, arith, eqb, leb, ltb, length, drop, getD, length-map, List·getD-eq-default, getD-drop, eq-eqb, ne-eqb}
+use Rattle.units.proofs.Common.{le-leb, eqb-true, leb-true, le-ltb, lt-ltb, every, yes-cond, no-cond, yes-or, no-or, and-true}
 use native.Mathlib.Decide.{decLt}
-use lib.Dec.{leb, ltb, eqb}
-use lib.ListN.{length, getD, drop, length-map, List·getD-eq-default}
-use lib.Seq.{getD-drop}
-use borrow.Author.Tests.{lt-ltb, le-ltb, le-leb, leb-true, eq-eqb, ne-eqb, eqb-true}
-use Rattle.units.specs.Count.{every}
-use Rattle.units.proofs.Choice.{yes-cond, no-cond, yes-or, no-or, and-true}
-use Rattle.meaning.specs.Call.{same, Call, command, check, arrive, leave, collect, acknowledge}
+use Rattle.meaning.proofs.Terms.{same, Call, command, check, arrive, leave, collect, acknowledge}
 use Rattle.dialog.specs.Fields.{fields, numberOk, wordOk, wordOf, bytesOk, bytesOf}
-use Rattle.dialog.specs.Spoken.{Spoken, passed, unreadable, call, look, callBy, spoken, saying, isForm, numbersOk, aNode, aNodeAndNumber, aFirstAndACount, aStamp, aNodeAStampAndAClock, field, number, stampFrom}
+use Rattle.dialog.specs.Spoken.{Spoken, passed, unreadable, call, look, callBy, spoken, saying, isForm, numbersOk, aNode}
+use Rattle.dialog.specs.Spoken.{aNodeAndNumber, aFirstAndACount, aStamp, aNodeAStampAndAClock, field, number, stampFrom}
 use Rattle.dialog.specs.Spoken.{commandOk, checkOk, arriveOk, leaveOk, collectOk, acknowledgeOk, storeOk}
-use Rattle.dialog.specs.Spoken.{commandSaid, checkSaid, arriveSaid, leaveSaid, collectSaid, acknowledgeSaid, storeSaid, formOf, commandWords}
+use Rattle.dialog.specs.Spoken.{commandSaid, checkSaid, arriveSaid, leaveSaid, collectSaid, acknowledgeSaid, storeSaid, formOf}
+use Rattle.dialog.specs.Spoken.{commandWords}
 use Rattle.text.specs.Text.{ascii}
 use Rattle.dialog.proofs.HexLaws.{bytes-few}
 use Rattle.dialog.proofs.FieldLaws.{both, nowise, number-is, of-number}
-
--- ---- a line that is a call, and one that is none
-said : (ok : Bool) (c : Call) → ok ≡ true → saying ok c ≡ call c
-said ok c e = yes-cond _ e
-
-unsaid : (ok : Bool) (c : Call) → (ok ≡ true → ⊥) → saying ok c ≡ unreadable
-unsaid ok c h = no-cond _ (nowise ok h)
 
 -- ---- numbers one after another
 and-assoc : (a b c : Bool) → ((a && b) && c) ≡ (a && (b && c))
@@ -43,11 +30,13 @@ numbers-enough [] fs e = omega arith
 numbers-enough (m ∷ ms) [] e = absurd (false≢true e)
 numbers-enough (m ∷ ms) (f ∷ fs) e = let h = numbers-enough ms fs (and-true (numberOk m f) (numbersOk ms fs) e .1) in omega arith
 
-pub numbers-split : (ms ns : List ℕ) (fs : List (List ℕ)) → numbersOk (ms ++ ns) fs ≡ (numbersOk ms fs && numbersOk ns (drop (length ms) fs))
+pub numbers-split : (ms ns : List ℕ) (fs : List (List ℕ)) → numbersOk (ms ++ ns) fs ≡
+    (numbersOk ms fs && numbersOk ns (drop (length ms) fs))
 unfolding numbersOk
 numbers-split [] ns fs = refl
 numbers-split (m ∷ ms) ns [] = refl
-numbers-split (m ∷ ms) ns (f ∷ fs) = ap (λ (x : Bool). numberOk m f && x) (numbers-split ms ns fs) ∙ sym (and-assoc (numberOk m f) (numbersOk ms fs) _)
+numbers-split (m ∷ ms) ns (f ∷ fs) = ap (λ (x : Bool). numberOk m f && x) (numbers-split ms ns fs) ∙ sym
+    (and-assoc (numberOk m f) (numbersOk ms fs) _)
 
 -- one number
 pub one-number : (most : ℕ) (f : List ℕ) (fs : List (List ℕ)) → numbersOk (most ∷ []) (f ∷ fs) ≡ numberOk most f
@@ -115,11 +104,11 @@ module _ (fs : List (List ℕ)) where
     pub some : 1 ≤ number fs 1
     pub inside : number fs 0 + number fs 1 ≤ 4096
 
-  is-command : IsCommand → commandOk fs ≡ true
+  pub is-command : IsCommand → commandOk fs ≡ true
   unfolding commandOk
   is-command c = both (both (both (c .stamp) (c .form)) (le-leb (length (drop 6 fs)) 256 (c .few))) (c .words)
 
-  of-command : commandOk fs ≡ true → IsCommand
+  pub of-command : commandOk fs ≡ true → IsCommand
   unfolding commandOk
   of-command e =
       let p = and-true ((numbersOk aStamp fs && isForm (field fs 5)) && leb (length (drop 6 fs)) 256) (every wordOk (drop 6 fs)) e in
@@ -127,18 +116,19 @@ module _ (fs : List (List ℕ)) where
       let r = and-true (numbersOk aStamp fs) (isForm (field fs 5)) (q .0) in
       record { stamp = r .0; form = r .1; few = leb-true (length (drop 6 fs)) 256 (q .1); words = p .1 }
 
-  is-check : IsCheck → checkOk fs ≡ true
+  pub is-check : IsCheck → checkOk fs ≡ true
   unfolding checkOk
   is-check c =
       both
       (numbers-split nodeAndStamp (4294967295 ∷ []) fs ∙ both (numbers-split aNode aStamp fs ∙ both (c .node) (c .stamp)) (c .clock))
       (eq-eqb (length fs) 7 (c .seven))
 
-  of-check : checkOk fs ≡ true → IsCheck
+  pub of-check : checkOk fs ≡ true → IsCheck
   unfolding checkOk
   of-check e =
       let p = and-true (numbersOk aNodeAStampAndAClock fs) (eqb (length fs) 7) e in
-      let q = and-true (numbersOk nodeAndStamp fs) (numbersOk (4294967295 ∷ []) (drop 6 fs)) (sym (numbers-split nodeAndStamp (4294967295 ∷ []) fs) ∙ p .0) in
+      let q = and-true (numbersOk nodeAndStamp fs) (numbersOk (4294967295 ∷ []) (drop 6 fs))
+      (sym (numbers-split nodeAndStamp (4294967295 ∷ []) fs) ∙ p .0) in
       let r = and-true (numbersOk aNode fs) (numbersOk aStamp (drop 1 fs)) (sym (numbers-split aNode aStamp fs) ∙ q .0) in record {
         node = r .0;
         stamp = r .1;
@@ -146,11 +136,11 @@ module _ (fs : List (List ℕ)) where
         seven = eqb-true (length fs) 7 (p .1);
       }
 
-  is-arrive : IsArrive → arriveOk fs ≡ true
+  pub is-arrive : IsArrive → arriveOk fs ≡ true
   unfolding arriveOk
   is-arrive c = both (both (both (c .node) (eq-eqb (length fs) 3 (c .three))) (c .id)) (c .bytes)
 
-  of-arrive : arriveOk fs ≡ true → IsArrive
+  pub of-arrive : arriveOk fs ≡ true → IsArrive
   unfolding arriveOk
   of-arrive e =
       let p = and-true ((numbersOk aNode fs && eqb (length fs) 3) && bytesOk 16 (field fs 1)) (bytesOk 2047 (field fs 2)) e in
@@ -158,37 +148,37 @@ module _ (fs : List (List ℕ)) where
       let r = and-true (numbersOk aNode fs) (eqb (length fs) 3) (q .0) in
       record { node = r .0; three = eqb-true (length fs) 3 (r .1); id = q .1; bytes = p .1 }
 
-  is-leave : IsLeave → leaveOk fs ≡ true
+  pub is-leave : IsLeave → leaveOk fs ≡ true
   unfolding leaveOk
   is-leave c = both (c .node) (eq-eqb (length fs) 1 (c .one))
 
-  of-leave : leaveOk fs ≡ true → IsLeave
+  pub of-leave : leaveOk fs ≡ true → IsLeave
   unfolding leaveOk
   of-leave e = let p = and-true (numbersOk aNode fs) (eqb (length fs) 1) e in record { node = p .0; one = eqb-true (length fs) 1 (p .1) }
 
-  is-collect : IsCollect → collectOk fs ≡ true
+  pub is-collect : IsCollect → collectOk fs ≡ true
   unfolding collectOk
   is-collect c = both (both (c .node) (eq-eqb (length fs) 2 (c .two))) (c .form)
 
-  of-collect : collectOk fs ≡ true → IsCollect
+  pub of-collect : collectOk fs ≡ true → IsCollect
   unfolding collectOk
   of-collect e =
       let p = and-true (numbersOk aNode fs && eqb (length fs) 2) (isForm (field fs 1)) e in
       let q = and-true (numbersOk aNode fs) (eqb (length fs) 2) (p .0) in
       record { node = q .0; two = eqb-true (length fs) 2 (q .1); form = p .1 }
 
-  is-acknowledge : IsAcknowledge → acknowledgeOk fs ≡ true
+  pub is-acknowledge : IsAcknowledge → acknowledgeOk fs ≡ true
   unfolding acknowledgeOk
   is-acknowledge c = both (numbers-split aNode (65535 ∷ []) fs ∙ both (c .node) (c .number)) (eq-eqb (length fs) 2 (c .two))
 
-  of-acknowledge : acknowledgeOk fs ≡ true → IsAcknowledge
+  pub of-acknowledge : acknowledgeOk fs ≡ true → IsAcknowledge
   unfolding acknowledgeOk
   of-acknowledge e =
       let p = and-true (numbersOk aNodeAndNumber fs) (eqb (length fs) 2) e in
       let q = and-true (numbersOk aNode fs) (numbersOk (65535 ∷ []) (drop 1 fs)) (sym (numbers-split aNode (65535 ∷ []) fs) ∙ p .0) in
       record { node = q .0; number = q .1; two = eqb-true (length fs) 2 (p .1) }
 
-  is-store : IsStore → storeOk fs ≡ true
+  pub is-store : IsStore → storeOk fs ≡ true
   unfolding storeOk
   is-store c =
       both
@@ -198,9 +188,11 @@ module _ (fs : List (List ℕ)) where
   pub of-store : storeOk fs ≡ true → IsStore
   unfolding storeOk
   of-store e =
-      let p = and-true (numbersOk aFirstAndACount fs && eqb (length fs) 2) (leb 1 (number fs 1) && leb (number fs 0 + number fs 1) 4096) e in
+      let p = and-true (numbersOk aFirstAndACount fs && eqb (length fs) 2) (leb 1 (number fs 1) && leb (number fs 0 + number fs 1) 4096)
+      e in
       let q = and-true (numbersOk aFirstAndACount fs) (eqb (length fs) 2) (p .0) in
-      let r = and-true (numbersOk (4095 ∷ []) fs) (numbersOk (128 ∷ []) (drop 1 fs)) (sym (numbers-split (4095 ∷ []) (128 ∷ []) fs) ∙ q .0) in
+      let r = and-true (numbersOk (4095 ∷ []) fs) (numbersOk (128 ∷ []) (drop 1 fs))
+      (sym (numbers-split (4095 ∷ []) (128 ∷ []) fs) ∙ q .0) in
       let t = and-true (leb 1 (number fs 1)) (leb (number fs 0 + number fs 1) 4096) (p .1) in record {
         first = r .0;
         count = r .1;
@@ -208,48 +200,6 @@ module _ (fs : List (List ℕ)) where
         some = leb-true 1 (number fs 1) (t .0);
         inside = leb-true (number fs 0 + number fs 1) 4096 (t .1);
       }
-
-  pub a-command : IsCommand → commandSaid fs ≡ call (command (stampFrom fs 0) (formOf (field fs 5)) (commandWords fs))
-  a-command c = said (commandOk fs) _ (is-command c)
-
-  pub no-command : (IsCommand → ⊥) → commandSaid fs ≡ unreadable
-  no-command h = unsaid (commandOk fs) _ (λ e. h (of-command e))
-
-  pub a-check : IsCheck → checkSaid fs ≡ call (check (number fs 0) (stampFrom fs 1) (number fs 6))
-  a-check c = said (checkOk fs) _ (is-check c)
-
-  pub no-check : (IsCheck → ⊥) → checkSaid fs ≡ unreadable
-  no-check h = unsaid (checkOk fs) _ (λ e. h (of-check e))
-
-  pub a-arrive : IsArrive → arriveSaid fs ≡ call (arrive (number fs 0) (bytesOf (field fs 1)) (bytesOf (field fs 2)))
-  a-arrive c = said (arriveOk fs) _ (is-arrive c)
-
-  pub no-arrive : (IsArrive → ⊥) → arriveSaid fs ≡ unreadable
-  no-arrive h = unsaid (arriveOk fs) _ (λ e. h (of-arrive e))
-
-  pub a-leave : IsLeave → leaveSaid fs ≡ call (leave (number fs 0))
-  a-leave c = said (leaveOk fs) _ (is-leave c)
-
-  pub no-leave : (IsLeave → ⊥) → leaveSaid fs ≡ unreadable
-  no-leave h = unsaid (leaveOk fs) _ (λ e. h (of-leave e))
-
-  pub a-collect : IsCollect → collectSaid fs ≡ call (collect (formOf (field fs 1)) (number fs 0) 135)
-  a-collect c = said (collectOk fs) _ (is-collect c)
-
-  pub no-collect : (IsCollect → ⊥) → collectSaid fs ≡ unreadable
-  no-collect h = unsaid (collectOk fs) _ (λ e. h (of-collect e))
-
-  pub a-acknowledge : IsAcknowledge → acknowledgeSaid fs ≡ call (acknowledge (number fs 0) (number fs 1))
-  a-acknowledge c = said (acknowledgeOk fs) _ (is-acknowledge c)
-
-  pub no-acknowledge : (IsAcknowledge → ⊥) → acknowledgeSaid fs ≡ unreadable
-  no-acknowledge h = unsaid (acknowledgeOk fs) _ (λ e. h (of-acknowledge e))
-
-  pub a-store : IsStore → storeSaid fs ≡ look (number fs 0) (number fs 1)
-  a-store c = yes-cond _ (is-store c)
-
-  pub no-store : (IsStore → ⊥) → storeSaid fs ≡ unreadable
-  no-store h = no-cond _ (nowise (storeOk fs) (λ e. h (of-store e)))
 
   -- a form is one of the fields
   pub form-there : (k : ℕ) → isForm (field fs k) ≡ true → k < length fs
@@ -261,10 +211,11 @@ module _ (fs : List (List ℕ)) where
 
   -- five nodes are a stamp
   pub stamp-numbers : numbersOk aStamp fs
-      ≡ ((((numbersOk aNode fs && numbersOk aNode (drop 1 fs)) && numbersOk aNode (drop 2 fs)) && numbersOk aNode (drop 3 fs)) && numbersOk aNode (drop 4 fs))
+      ≡ ((((numbersOk aNode fs && numbersOk aNode (drop 1 fs)) && numbersOk aNode (drop 2 fs)) && numbersOk aNode (drop 3 fs)) && numbersOk
+      aNode (drop 4 fs))
   stamp-numbers =
-      rw
-      (numbers-split (255 ∷ 255 ∷ 255 ∷ 255 ∷ []) aNode fs, numbers-split (255 ∷ 255 ∷ 255 ∷ []) aNode fs, numbers-split (255 ∷ 255 ∷ []) aNode fs, numbers-split aNode aNode fs)
+      let split : (ms : List ℕ) → _ = λ ms. numbers-split ms aNode fs in
+      rw (split (255 ∷ 255 ∷ 255 ∷ 255 ∷ []), split (255 ∷ 255 ∷ 255 ∷ []), split (255 ∷ 255 ∷ []), split aNode)
 
 -- ---- the line
 module _ (line : List ℕ) where
@@ -282,7 +233,8 @@ module _ (line : List ℕ) where
       no-cond _ (le-ltb 4400 (length line) h)
       ∙ yes-cond _ (no-or (ne-eqb (length line) 0 d) ∙ eq-eqb (getD line 0 0) 35 e)
 
-  pub tried : (w : List ℕ) (fs : List (List ℕ)) → length line ≤ 4400 → (length line ≡ 0 → ⊥) → (getD line 0 0 ≡ 35 → ⊥) → fields line ≡ w ∷ fs
+  pub tried : (w : List ℕ) (fs : List (List ℕ)) → length line ≤ 4400 → (length line ≡ 0 → ⊥) → (getD line 0 0 ≡ 35 → ⊥) → fields line ≡ w ∷
+      fs
       → spoken line ≡ callBy w fs
   unfolding spoken
   tried w fs h d e f =

@@ -16,6 +16,10 @@ use Rattle.dialog.specs.Fields.{before}
 use Rattle.dialog.specs.Spoken.{Spoken, passed, unreadable, call, look, spoken}
 
 -- ---- "Lines out"
+-- no line out is longer, its line feed counted
+abbrev pub longestAnswer : ℕ
+longestAnswer = 691
+
 -- "`collected NUMBER WORD WORD ..`: the handover number in decimal, then the words, four upper-case hex digits each"
 unfoldable pub collectedLine : ℕ → List ℕ → List ℕ
 collectedLine h ws = ascii "collected " ++ (decimalOf h ++ (32 ∷ wordsLine ws))

@@ -43,6 +43,16 @@ aNodeAndNumber = 255 ∷ 65535 ∷ []
 abbrev pub aFirstAndACount : List ℕ
 aFirstAndACount = 4095 ∷ 128 ∷ []
 
+-- "A packet has at most 256 words", "an ID has at most 16 bytes, a plaque at most 2,047"
+abbrev pub mostWords : ℕ
+mostWords = 256
+
+abbrev pub longestId : ℕ
+longestId = 16
+
+abbrev pub longestPlaque : ℕ
+longestPlaque = 2047
+
 abbrev pub aStamp : List ℕ
 aStamp = 255 ∷ 255 ∷ 255 ∷ 255 ∷ 255 ∷ []
 
@@ -62,7 +72,7 @@ module _ (fs : List (List ℕ)) where
 
   -- "`command MONTH DAY HOUR MINUTE SECOND FORM WORD WORD ..`: no word at all is allowed"; "A packet has at most 256 words"
   unfoldable pub commandOk : Bool
-  commandOk = numbersOk aStamp fs && isForm (field 5) && leb (length (drop 6 fs)) 256 && every wordOk (drop 6 fs)
+  commandOk = numbersOk aStamp fs && isForm (field 5) && leb (length (drop 6 fs)) mostWords && every wordOk (drop 6 fs)
 
   abbrev pub commandWords : List ℕ
   commandWords = map wordOf (drop 6 fs)
@@ -73,7 +83,7 @@ module _ (fs : List (List ℕ)) where
 
   -- "`arrive NODE ID BYTES`"; "an ID has at most 16 bytes, a plaque at most 2,047"
   unfoldable pub arriveOk : Bool
-  arriveOk = numbersOk aNode fs && eqb (length fs) 3 && bytesOk 16 (field 1) && bytesOk 2047 (field 2)
+  arriveOk = numbersOk aNode fs && eqb (length fs) 3 && bytesOk longestId (field 1) && bytesOk longestPlaque (field 2)
 
   -- "`leave NODE`"
   unfoldable pub leaveOk : Bool

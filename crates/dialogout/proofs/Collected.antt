@@ -1,15 +1,9 @@
 -- The line of an answer that is handed over: how it begins, and its words, with word 00 in front where the form has it.
 -- Assumes nothing.
-use Prim.Native.Nat.{ℕ, _+_, _^_, _≤_, _<_}
-use mathlib.Core.Path.{_≡_, refl, sym, ap, _∙_}
-use mathlib.Core.Bool.{true, false}
-use mathlib.Core.List.{List, [], _∷_, _++_}
-use native.Mathlib.Omega.{arith}
-use lib.ListN.{length}
-use Rattle.units.specs.Word.{word}
+use Rattle.units.proofs.Common.{sym, _∙_, _≡_, refl, ap, true, false, List, [], _∷_, _++_, ℕ, _≤_, _+_, _<_, _^_, arith, length, word}
+use Rattle.units.proofs.Common.{yes-cond, no-cond}
 use Rattle.units.specs.declared.Form.{Form}
-use Rattle.units.proofs.Choice.{yes-cond, no-cond}
-use Rattle.meaning.specs.Response.{bears, shown}
+use Rattle.meaning.proofs.Terms.{bears, shown}
 use Rattle.text.specs.Text.{ascii, Put, hexOf, decimalOf, wordsLine}
 use Rattle.text.proofs.Writing.{put-then, put-length, put-as, decimal-short}
 use Rattle.dialog.specs.Dialog.{collectedLine}

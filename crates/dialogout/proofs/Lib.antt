@@ -1,3 +1,3 @@
+-- Laws that belong to no one function.
 pub mod Rooms
-pub mod Said
 pub mod Collected

@@ -1,10 +1,6 @@
 -- How long the lines out of the console are.
 -- Assumes nothing.
-use Prim.Native.Nat.{ℕ, _^_, _≤_, _<_}
-use mathlib.Core.Path.{_≡_, refl}
-use mathlib.Core.List.{List}
-use native.Mathlib.Omega.{arith}
-use lib.ListN.{length, length-append}
+use Rattle.units.proofs.Common.{_≡_, refl, List, ℕ, _≤_, _<_, _^_, arith, length, length-append}
 use mir.Val.{Val}
 use denote.Shadow.{shadow}
 use Rattle.promise.proofs.Reply as the-reply
@@ -28,7 +24,8 @@ unfolding storeLine
 store-short ws h = simp length-append (omega (arith, length-words ws))
 
 -- a reply, of which its owner knows that the number of a refusal is a byte
-pub said-short : (r : Reply) (vs : List Val) → shadow (the-reply.the-field .row .own (the-reply.the-type .to r) vs) → length (saidLine (spoken r)) ≤ 14
+pub said-short : (r : Reply) (vs : List Val) → shadow (the-reply.the-field .row .own (the-reply.the-type .to r) vs) → length
+    (saidLine (spoken r)) ≤ 14
 unfolding saidLine spoken
 said-short (Reply.Refused k) vs g = refused-short k (omega (arith, g .1 .1 .1 .1 .0 .1))
 said-short Reply.Done vs g = omega arith

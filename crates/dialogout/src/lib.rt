@@ -15,7 +15,10 @@ ghost use Rattle.text.specs.Text.{Put};
 ghost use Rattle.meaning.specs.Packet.{overall};
 ghost use Rattle.meaning.specs.Response.{shown};
 ghost use Rattle.promise.specs.Obeyed.{spoken};
-ghost use Rattle.dialog.specs.Dialog.{unreadableLine, collectedLine, saidLine, storeLine};
+ghost use Rattle.dialog.specs.Dialog.{unreadableLine, collectedLine, saidLine, storeLine, longestAnswer};
+
+// No line out is longer, its line feed counted.
+pub const LONGEST: usize = 691;
 
 pub fn put_unreadable(out: &mut [u8], at: usize) -> usize
     requires { ⌜ at + 11 ≤ length (now out) ⌝ }
@@ -46,7 +49,7 @@ pub fn put_handed(
     node: u8,
     words: &[u16],
 ) -> usize
-    requires { ⌜ (at + 691 ≤ length (now out)) × (1 ≤ length (now words)) × (length (now words) ≤ overall 255) ⌝ }
+    requires { ⌜ (at + longestAnswer ≤ length (now out)) × (1 ≤ length (now words)) × (length (now words) ≤ overall 255) ⌝ }
     ensures { λ r. ⌜ Put (now (out .entry)) at (collectedLine number (shown form node (now (words .entry)))) (now (out .exit)) r ⌝ }
 {
     let from = put_text(out, at, b"collected ");
@@ -62,7 +65,7 @@ pub fn put_handed(
 
 // Words of the answer store.
 pub fn put_store(out: &mut [u8], at: usize, words: &[u16]) -> usize
-    requires { ⌜ (at + 691 ≤ length (now out)) × (length (now words) ≤ 128) ⌝ }
+    requires { ⌜ (at + longestAnswer ≤ length (now out)) × (length (now words) ≤ 128) ⌝ }
     ensures { λ r. ⌜ Put (now (out .entry)) at (storeLine (now (words .entry))) (now (out .exit)) r ⌝ }
 {
     let to = put_text(out, at, b"store ");

@@ -1,17 +1,12 @@
--- What the readers of numbers promise, from what they found. `fs` are the fields from some place on, and a place is known by how many of them come before it.
+-- What the readers of numbers promise, from what they found. `fs` are the fields from some place on, and a place is known by how many of
+-- them come before it.
 -- Assumes nothing.
-use Prim.Native.Nat.{ℕ, _+_, _-_, _%_, _≤_, _<_}
-use mathlib.Core.Path.{_≡_, refl, sym, ap, subst, _∙_}
-use mathlib.Core.Bool.{Bool, true, false, cond, _&&_}
-use mathlib.Core.List.{List, [], _∷_}
-use native.Mathlib.Omega.{arith}
-use lib.ListN.{length, getD, take, drop}
-use lib.Seq.{getD-drop, drop-drop}
-use Rattle.units.proofs.Choice.{yes-cond, and-true}
+use Rattle.units.proofs.Common.{sym, _∙_, _≡_, refl, ap, subst, true, false, Bool, cond, _&&_, List, [], _∷_, ℕ, _≤_, _-_, _+_, _<_, _%_}
+use Rattle.units.proofs.Common.{arith, length, drop, getD, take, length-drop, getD-drop, drop-drop, yes-cond, and-true}
 use Rattle.dialog.specs.Fields.{valueOf, numberOk}
 use Rattle.dialog.specs.Spoken.{numbersOk, aNode, aStamp, field, number, stampFrom}
 use Rattle.dialog.proofs.FieldLaws.{nowise, IsNumber, number-is, of-number}
-use Rattle.dialog.proofs.SpokenLaws.{one-number, no-number, stamp-numbers}
+use Rattle.dialog.proofs.SpokenLaws.{numbers-enough, one-number, no-number, stamp-numbers}
 use Rattle.fields.specs.declared.number.Number.{Number}
 use Rattle.fields.specs.declared.number.NumberRead.{NumberRead}
 use Rattle.fields.specs.declared.number.NodeRead.{NodeRead}
@@ -103,44 +98,49 @@ module _ (line : List ℕ) where
 plus : (k i : ℕ) → k + i ≡ k + 0 + i
 plus k i = omega arith
 
-module _ (line : List ℕ) (fs : List (List ℕ)) where
-  rest-then : (k p q : ℕ) (j : ℕ) → fieldsFrom line p ≡ drop k fs → fieldsFrom line q ≡ drop j (fieldsFrom line p) → fieldsFrom line q ≡ drop (k + j) fs
-  rest-then k p q j e r = r ∙ ap (drop j) e ∙ drop-drop j k fs
+-- k of the fields fs come before place p
+pub record From (line : List ℕ) (fs : List (List ℕ)) (k p : ℕ) : Type 0 where
+  pub is : fieldsFrom line p ≡ drop k fs
 
-  pub record NodeIs (k : ℕ) (n : NodeRead) : Type 0 where
-    pub ok : n .ok ≡ numbersOk aNode (drop k fs)
-    pub value : n .ok ≡ true → n .node ≡ number fs (k + 0)
-    pub rest : fieldsFrom line (n .next) ≡ drop (k + 1) fs
+pub all-from : {line : List ℕ} {p : ℕ} → From line (fieldsFrom line p) 0 p
+all-from = record { is = refl }
 
-  pub node-is : (k p : ℕ) (n : NodeRead) → fieldsFrom line p ≡ drop k fs → n ≡ nodeAt line p → NodeIs k n
+rest-then : {line : List ℕ} {fs : List (List ℕ)} {k p : ℕ} (q j : ℕ) → From line fs k p → fieldsFrom line q ≡ drop j (fieldsFrom line p)
+    → From line fs (k + j) q
+rest-then {fs = fs} {k = k} q j e r = record { is = r ∙ ap (drop j) (e .is) ∙ drop-drop j k fs }
+
+pub record NumberIs (line : List ℕ) (fs : List (List ℕ)) (most k : ℕ) (good : Bool) (v next : ℕ) : Type 0 where
+  pub ok : good ≡ numbersOk (most ∷ []) (drop k fs)
+  pub value : good ≡ true → v ≡ number fs (k + 0)
+  pub there : good ≡ true → k + 1 ≤ length fs
+  pub rest : From line fs (k + 1) next
+
+pub record StampIs (line : List ℕ) (fs : List (List ℕ)) (k : ℕ) (t : StampRead) : Type 0 where
+  pub ok : t .ok ≡ numbersOk aStamp (drop k fs)
+  pub value : t .ok ≡ true → t .stamp ≡ stampFrom fs (k + 0)
+  pub rest : From line fs (k + 5) (t .next)
+
+module _ {line : List ℕ} {fs : List (List ℕ)} {k p : ℕ} (e : From line fs k p) where
+  pub number-is-at : {most : ℕ} {n : NumberRead} → n ≡ numberAt most line p → NumberIs line fs most k (n .ok) (n .value) (n .next)
+  number-is-at {most} a =
+      let ok : numberAt most line p .ok ≡ numbersOk (most ∷ []) (drop k fs) = number-ok line most p ∙ ap (numbersOk (most ∷ [])) (e .is) in
+      rw a (record {
+        ok = ok;
+        value = λ t. number-value line most p t ∙ ap (λ (gs : List (List ℕ)). number gs 0) (e .is) ∙ ap valueOf (getD-drop k fs 0 []);
+        there = λ t. omega (arith, numbers-enough (most ∷ []) (drop k fs) (sym ok ∙ t), length-drop k fs);
+        rest = rest-then _ 1 e (number-rest line most p);
+      })
+
+  pub node-is : {n : NodeRead} → n ≡ nodeAt line p → NumberIs line fs 255 k (n .ok) (n .node) (n .next)
   unfolding nodeAt
-  node-is k p n e a = subst (NodeIs k) (sym a) (record {
-    ok = number-ok line 255 p ∙ ap (numbersOk aNode) e;
-    value = λ t. number-value line 255 p t ∙ ap (λ (gs : List (List ℕ)). number gs 0) e ∙ ap valueOf (getD-drop k fs 0 []);
-    rest = rest-then k p _ 1 e (number-rest line 255 p);
-  })
+  node-is a = rw a (number-is-at refl)
 
-  pub record NumberIs (most k : ℕ) (n : NumberRead) : Type 0 where
-    pub ok : n .ok ≡ numbersOk (most ∷ []) (drop k fs)
-    pub value : n .ok ≡ true → n .value ≡ number fs (k + 0)
-    pub rest : fieldsFrom line (n .next) ≡ drop (k + 1) fs
-
-  pub number-is-at : (most k p : ℕ) (n : NumberRead) → fieldsFrom line p ≡ drop k fs → n ≡ numberAt most line p → NumberIs most k n
-  number-is-at most k p n e a = subst (NumberIs most k) (sym a) (record {
-    ok = number-ok line most p ∙ ap (numbersOk (most ∷ [])) e;
-    value = λ t. number-value line most p t ∙ ap (λ (gs : List (List ℕ)). number gs 0) e ∙ ap valueOf (getD-drop k fs 0 []);
-    rest = rest-then k p _ 1 e (number-rest line most p);
-  })
-
-  pub record StampIs (k : ℕ) (t : StampRead) : Type 0 where
-    pub ok : t .ok ≡ numbersOk aStamp (drop k fs)
-    pub value : t .ok ≡ true → t .stamp ≡ stampFrom fs (k + 0)
-    pub rest : fieldsFrom line (t .next) ≡ drop (k + 5) fs
-
+module _ (fs : List (List ℕ)) where
   -- five fields of what is left are five fields of the whole
   stamp-after : (k : ℕ) → stampFrom (drop k fs) 0 ≡ stampFrom fs (k + 0)
   stamp-after k =
-      let shift : (i : ℕ) → getD (drop k fs) i [] ≡ getD fs (k + 0 + i) [] = λ i. getD-drop k fs i [] ∙ ap (λ (j : ℕ). getD fs j []) (plus k i) in
+      let shift : (i : ℕ) → getD (drop k fs) i [] ≡ getD fs (k + 0 + i) [] = λ i. getD-drop k fs i [] ∙ ap (λ (j : ℕ). getD fs j [])
+      (plus k i) in
       let z : getD (drop k fs) 0 [] ≡ getD fs (k + 0) [] = getD-drop k fs 0 [] in
       rw (z, shift 1, shift 2, shift 3, shift 4)
 
@@ -154,11 +154,11 @@ stamp-here line p =
     let h : NodeRead = nodeAt line (d .next) in
     let n : NodeRead = nodeAt line (h .next) in
     let s : NodeRead = nodeAt line (n .next) in
-    let im = node-is line fs 0 p m refl refl in
-    let id = node-is line fs 1 (m .next) d (im .rest) refl in
-    let ih = node-is line fs 2 (d .next) h (id .rest) refl in
-    let in′ = node-is line fs 3 (h .next) n (ih .rest) refl in
-    let is = node-is line fs 4 (n .next) s (in′ .rest) refl in record {
+    let im = node-is all-from {n = m} refl in
+    let id = node-is (im .rest) {n = d} refl in
+    let ih = node-is (id .rest) {n = h} refl in
+    let in′ = node-is (ih .rest) {n = n} refl in
+    let is = node-is (in′ .rest) {n = s} refl in record {
       ok = rw (im .ok, id .ok, ih .ok, in′ .ok, is .ok) (sym (stamp-numbers fs));
       value = λ t.
           let p₄ = and-true (((m .ok && d .ok) && h .ok) && n .ok) (s .ok) t in
@@ -170,14 +170,14 @@ stamp-here line p =
     }
 
 -- .. also where k fields came before
-pub stamp-is-at : (line : List ℕ) (fs : List (List ℕ)) (k p : ℕ) (t : StampRead) → fieldsFrom line p ≡ drop k fs → t ≡ stampAt line p
+pub stamp-is-at : {line : List ℕ} {fs : List (List ℕ)} {k p : ℕ} {t : StampRead} → From line fs k p → t ≡ stampAt line p
     → StampIs line fs k t
-stamp-is-at line fs k p t e a =
+stamp-is-at {line} {fs} {k} {p} e a =
     let h = stamp-here line p in
-    subst (StampIs line fs k) (sym a) (record {
-      ok = h .ok ∙ ap (numbersOk aStamp) e;
-      value = λ g. h .value g ∙ ap (λ (gs : List (List ℕ)). stampFrom gs 0) e ∙ stamp-after line fs k;
-      rest = rest-then line fs k p _ 5 e (h .rest);
+    rw a (record {
+      ok = h .ok ∙ ap (numbersOk aStamp) (e .is);
+      value = λ g. h .value g ∙ ap (λ (gs : List (List ℕ)). stampFrom gs 0) (e .is) ∙ stamp-after fs k;
+      rest = rest-then _ 5 e (h .rest .is);
     })
 
 -- as the code reads it

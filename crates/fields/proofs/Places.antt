@@ -1,16 +1,9 @@
 -- The fields from a place of a line on: where a field ends, whether there is one more, and whether all are words.
 -- Assumes nothing.
-use Prim.Native.Nat.{ℕ, zero, suc, _+_, _-_, _≤_, _<_}
-use mathlib.Core.Path.{_≡_, sym, ap, _∙_, subst}
-use mathlib.Core.Bool.{true, false}
-use mathlib.Core.List.{List, [], _∷_}
-use native.Mathlib.Decide.{decLe, ℕ-discrete}
-use native.Mathlib.Omega.{arith}
-use lib.ListN.{length, getD, take, drop, drop-of-length-le, length-drop}
-use lib.Seq.{length-take-le}
-use borrow.Author.Tests.{le-leb, lt-leb}
-use Rattle.units.specs.Count.{every}
-use Rattle.units.proofs.Choice.{yes-cond, no-cond}
+use Rattle.units.proofs.Common.{sym, _∙_, _≡_, ap, subst, true, false, List, [], _∷_, ℕ, _≤_, _-_, _+_, _<_, suc, zero, ℕ-discrete, arith}
+use Rattle.units.proofs.Common.{length, drop, getD, take, length-drop, drop-of-length-le, length-take-le, le-leb, lt-leb, every, yes-cond}
+use Rattle.units.proofs.Common.{no-cond}
+use native.Mathlib.Decide.{decLe}
 use Rattle.dialog.specs.Fields.{fields, wordOk}
 use Rattle.dialog.specs.Spoken.{field}
 use Rattle.dialog.proofs.FieldLaws.{next, fields-some, fields-none, fields-blank, fields-more}
@@ -35,27 +28,32 @@ module _ (line : List ℕ) where
 
   pub at-blank : (at : ℕ) → at < length line → getD line at 0 ≡ 32 → FieldAt line at at
   at-blank at h e = record {
-    first = from-in at (omega arith) ∙ ap fields (next line at 0 h) ∙ fields-blank (getD line at 0) (drop (at + 1) line) e ∙ rw (none-left at (drop at line), from-in (at + 1) (omega arith));
+    first = from-in at (omega arith) ∙ ap fields (next line at 0 h) ∙ fields-blank (getD line at 0) (drop (at + 1) line) e ∙ rw
+        (none-left at (drop at line), from-in (at + 1) (omega arith));
     least = omega arith;
     most = omega arith;
   }
 
   pub at-end : (at : ℕ) → at ≡ length line → FieldAt line at at
   at-end at e = record {
-    first = from-in at (omega arith) ∙ ap fields (drop-of-length-le line {i = at} (omega arith)) ∙ fields-none ∙ rw (none-left at (drop at line), from-past (at + 1) (omega arith));
+    first = from-in at (omega arith) ∙ ap fields (drop-of-length-le line {i = at} (omega arith)) ∙ fields-none ∙ rw
+        (none-left at (drop at line), from-past (at + 1) (omega arith));
     least = omega arith;
     most = omega arith;
   }
 
   -- a byte that is no blank is the first of its field
-  one-more : (at r : ℕ) → at < length line → at + 1 ≤ r → getD line at 0 ∷ take (r - (at + 1)) (drop (at + 1) line) ≡ take (r - at) (drop at line)
+  one-more : (at r : ℕ) → at < length line → at + 1 ≤ r → getD line at 0 ∷ take (r - (at + 1)) (drop (at + 1) line) ≡ take (r - at)
+      (drop at line)
   one-more at r h g = let z : r - at ≡ suc (r - (at + 1)) = omega arith in rw (z, next line at 0 h)
 
   pub at-other : (at r : ℕ) → at < length line → (getD line at 0 ≡ 32 → ⊥) → FieldAt line (at + 1) r → FieldAt line at r
   at-other at r h d f =
-      let rest : fields (drop (at + 1) line) ≡ take (r - (at + 1)) (drop (at + 1) line) ∷ fieldsFrom line (r + 1) = sym (from-in (at + 1) (omega arith)) ∙ f .first in
+      let rest : fields (drop (at + 1) line) ≡ take (r - (at + 1)) (drop (at + 1) line) ∷ fieldsFrom line (r + 1) = sym
+      (from-in (at + 1) (omega arith)) ∙ f .first in
       record {
-        first = from-in at (omega arith) ∙ ap fields (next line at 0 h) ∙ fields-more (getD line at 0) (drop (at + 1) line) _ _ d rest ∙ rw (one-more at r h (f .least));
+        first = from-in at (omega arith) ∙ ap fields (next line at 0 h) ∙ fields-more (getD line at 0) (drop (at + 1) line) _ _ d rest ∙ rw
+            (one-more at r h (f .least));
         least = omega arith;
         most = f .most;
       }

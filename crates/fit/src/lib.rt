@@ -8,6 +8,8 @@ use state::reader::Reader;
 use state::reader::Reading;
 use state::reader::Report;
 use units::Bytes;
+use units::NODES;
+use units::READERS;
 use units::Words;
 ghost use mathlib.Core.Path.{_≡_};
 ghost use Prim.Native.Nat.{_<_};
@@ -97,18 +99,18 @@ fn reader_ok(x: Reader) -> bool
 }
 
 // The reader at an index. (A call's result is known to have all its bytes; an element of an array is not.)
-fn reader_of(readers: [Reader; 16], i: usize) -> Reader
-    requires { ⌜ i < 16 ⌝ }
+fn reader_of(readers: [Reader; READERS], i: usize) -> Reader
+    requires { ⌜ i < full .readers ⌝ }
     ensures { λ r. ⌜ r ≡ getD readers i freshReader ⌝ }
 {
     readers[i]
 }
 
-pub fn readers_ok(readers: [Reader; 16]) -> bool
+pub fn readers_ok(readers: [Reader; READERS]) -> bool
     ensures { λ r. ⌜ r ≡ every (readerOk full) readers ⌝ }
 {
     let mut i: usize = 0;
-    while i < 16 {
+    while i < READERS {
         if !reader_ok(reader_of(readers, i)) {
             return false;
         }
@@ -118,11 +120,11 @@ pub fn readers_ok(readers: [Reader; 16]) -> bool
 }
 
 // The other fields of a node may have any value.
-fn nodes_ok(nodes: [Node; 17]) -> bool
+fn nodes_ok(nodes: [Node; NODES]) -> bool
     ensures { λ r. ⌜ r ≡ every nodeOk nodes ⌝ }
 {
     let mut i: usize = 0;
-    while i < 17 {
+    while i < NODES {
         let n = nodes[i];
         if n.handover < 1 {
             return false;

@@ -1,17 +1,14 @@
 -- Collect, where what is lent is at fault.
 -- Assumes nothing.
-use Prim.Native.Nat.{ℕ}
-use mathlib.Core.Path.{_≡_, ap, subst}
-use mathlib.Core.List.{List}
-use Rattle.meaning.specs.Bench.{Bench}
-use Rattle.meaning.specs.Call.{Call, Said}
-use Rattle.state.specs.Machine.{Machine}
-use Rattle.state.specs.Consistent.{unfit}
+use Rattle.units.proofs.Common.{_≡_, ap, subst, List, ℕ}
+use Rattle.meaning.proofs.Terms.{Bench, Call, Said}
+use Rattle.state.proofs.Terms.{Machine, unfit}
 use Rattle.promise.specs.Obeyed.{Obeyed, replied, written, Collects}
 use Rattle.promise.specs.declared.Handout.{Handout}
 use Rattle.promise.proofs.Promises.{unlent}
 
-pub collect-unlent : (b : Bench) (m : Machine) (c : Call) (k : ℕ) (out : List ℕ) → unfit b m ≡ k → (k ≡ 0 → ⊥) → Collects b c m (Handout.Refused k) out out
+pub collect-unlent : (b : Bench) (m : Machine) (c : Call) (k : ℕ) (out : List ℕ) → unfit b m ≡ k → (k ≡ 0 → ⊥) → Collects b c m
+    (Handout.Refused k) out out
 unfolding replied written
 collect-unlent b m c k out e d =
     let o = unlent b m c k e d in

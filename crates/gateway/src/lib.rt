@@ -23,7 +23,8 @@ pub fn command(
     store: &mut [u16],
     plaques: &mut [u8],
 ) -> Called
-    ensures { λ r. ⌜ Answers full (S.command t form (now (words .entry))) s (now (store .entry)) (now (plaques .entry)) r (now (store .exit)) (now (plaques .exit)) ⌝ }
+    ensures { λ r. ⌜ Answers full (S.command t form (now (words .entry))) s (now (store .entry)) (now (plaques .entry)) r
+        (now (store .exit)) (now (plaques .exit)) ⌝ }
 {
     let k = unfit(s, store, plaques);
     if k != 0 {
@@ -34,7 +35,8 @@ pub fn command(
 
 // A field check.
 pub fn check(s: State, node: u8, t: Stamp, clock: u32, store: &mut [u16], plaques: &[u8]) -> Called
-    ensures { λ r. ⌜ Answers full (S.check node t clock) s (now (store .entry)) (now (plaques .entry)) r (now (store .exit)) (now (plaques .entry)) ⌝ }
+    ensures { λ r. ⌜ Answers full (S.check node t clock) s (now (store .entry)) (now (plaques .entry)) r (now (store .exit))
+        (now (plaques .entry)) ⌝ }
 {
     let k = unfit(s, store, plaques);
     if k != 0 {
@@ -52,7 +54,8 @@ pub fn arrive(
     store: &[u16],
     plaques: &mut [u8],
 ) -> Called
-    ensures { λ r. ⌜ Answers full (S.arrive node (now (id .entry)) (now (bytes .entry))) s (now (store .entry)) (now (plaques .entry)) r (now (store .entry)) (now (plaques .exit)) ⌝ }
+    ensures { λ r. ⌜ Answers full (S.arrive node (now (id .entry)) (now (bytes .entry))) s (now (store .entry)) (now (plaques .entry)) r
+        (now (store .entry)) (now (plaques .exit)) ⌝ }
 {
     let k = unfit(s, store, plaques);
     if k != 0 {
@@ -63,7 +66,8 @@ pub fn arrive(
 
 // A plaque leaves.
 pub fn leave(s: State, node: u8, store: &[u16], plaques: &[u8]) -> Called
-    ensures { λ r. ⌜ Answers full (S.leave node) s (now (store .entry)) (now (plaques .entry)) r (now (store .entry)) (now (plaques .entry)) ⌝ }
+    ensures { λ r. ⌜ Answers full (S.leave node) s (now (store .entry)) (now (plaques .entry)) r (now (store .entry))
+        (now (plaques .entry)) ⌝ }
 {
     let k = unfit(s, store, plaques);
     if k != 0 {
@@ -74,7 +78,8 @@ pub fn leave(s: State, node: u8, store: &[u16], plaques: &[u8]) -> Called
 
 // An answer is acknowledged.
 pub fn acknowledge(s: State, node: u8, number: u16, store: &mut [u16], plaques: &[u8]) -> Called
-    ensures { λ r. ⌜ Answers full (S.acknowledge node number) s (now (store .entry)) (now (plaques .entry)) r (now (store .exit)) (now (plaques .entry)) ⌝ }
+    ensures { λ r. ⌜ Answers full (S.acknowledge node number) s (now (store .entry)) (now (plaques .entry)) r (now (store .exit))
+        (now (plaques .entry)) ⌝ }
 {
     let k = unfit(s, store, plaques);
     if k != 0 {
@@ -92,7 +97,8 @@ pub fn collect(
     plaques: &[u8],
     out: &mut [u16],
 ) -> Handout
-    ensures { λ r. ⌜ Collects full (S.collect form node (length (now (out .entry)))) (machine s (now (store .entry)) (now (plaques .entry))) r (now (out .entry)) (now (out .exit)) ⌝ }
+    ensures { λ r. ⌜ Collects full (S.collect form node (length (now (out .entry))))
+        (machine s (now (store .entry)) (now (plaques .entry))) r (now (out .entry)) (now (out .exit)) ⌝ }
 {
     let k = unfit(s, store, plaques);
     if k != 0 {

@@ -1,14 +1,10 @@
 -- Laws of line feeds counted: of a byte more, of a block more, and how many lines so many of them make.
 -- Assumes nothing.
-use Prim.Native.Nat.{ℕ, zero, suc, _+_, _≤_, _<_}
-use mathlib.Core.Path.{_≡_, refl, sym, ap, _∙_}
+use Rattle.units.proofs.Common.{sym, _∙_, _≡_, refl, ap, List, [], _∷_, _++_, ℕ, _≤_, _+_, _<_, suc, zero, add-one, ℕ-discrete, arith}
+use Rattle.units.proofs.Common.{length, drop, getD, take, length-drop, drop-of-length-le, length-append, length-take, take-append-drop}
+use Rattle.units.proofs.Common.{getD-drop, take-suc, take-add}
 use mathlib.Core.Logic.{if-pos, if-neg}
-use mathlib.Core.List.{List, [], _∷_, _++_, filter, filter-append}
-use native.Mathlib.Omega.{arith}
-use native.Mathlib.Numerals.{add-one}
-use native.Mathlib.Decide.{ℕ-discrete}
-use lib.ListN.{length, getD, take, drop, length-append, length-take, length-drop, take-append-drop, drop-of-length-le}
-use lib.Seq.{take-suc, take-add, getD-drop}
+use mathlib.Core.List.{filter, filter-append}
 use Rattle.dialog.specs.Fields.{before}
 use Rattle.dialog.specs.Dialog.{linesOf}
 use Rattle.dialog.proofs.FieldLaws.{next}
@@ -89,19 +85,19 @@ lines-next c b bs = elim (ℕ-discrete c 10) [
       omega (arith, ap length (lines-more c (b ∷ bs) d), feeds-more c (b ∷ bs) d)
 ]
 
--- a line for each line feed where the last byte is one
-pub lines-whole : (k : ℕ) (bs : List ℕ) → length bs ≡ suc k → getD bs k 0 ≡ 10 → length (linesOf bs) ≡ feedsIn bs
-lines-whole k [] h e = absurd (omega arith)
-lines-whole zero (c ∷ []) h e = omega (arith, ap length (lines-feed c [] e), ap length lines-none, feeds-feed c [] e)
-lines-whole (suc k) (c ∷ []) h e = absurd (omega arith)
-lines-whole zero (c ∷ b ∷ bs) h e = absurd (omega arith)
-lines-whole (suc k) (c ∷ b ∷ bs) h e = omega (arith, lines-next c b bs, lines-whole k (b ∷ bs) (omega arith) e)
+-- a line for each line feed, and one more where the last byte is none
+lines-count : (k : ℕ) (bs : List ℕ) → length bs ≡ suc k → length (linesOf bs) + feedsIn (getD bs k 0 ∷ []) ≡ feedsIn bs + 1
+lines-count k [] h = absurd (omega arith)
+lines-count zero (c ∷ []) h = elim (ℕ-discrete c 10) [
+  | yes e ↦ omega (arith, ap length (lines-feed c [] e), ap length lines-none, feeds-feed c [] e)
+  | no d ↦ omega (arith, ap length (lines-more c [] d ∙ ap (before c) lines-none), before-none c, feeds-more c [] d)
+]
+lines-count (suc k) (c ∷ []) h = absurd (omega arith)
+lines-count zero (c ∷ b ∷ bs) h = absurd (omega arith)
+lines-count (suc k) (c ∷ b ∷ bs) h = omega (arith, lines-next c b bs, lines-count k (b ∷ bs) (omega arith))
 
--- and one more where it is not
+pub lines-whole : (k : ℕ) (bs : List ℕ) → length bs ≡ suc k → getD bs k 0 ≡ 10 → length (linesOf bs) ≡ feedsIn bs
+lines-whole k bs h e = omega (arith, lines-count k bs h, feeds-feed (getD bs k 0) [] e)
+
 pub lines-part : (k : ℕ) (bs : List ℕ) → length bs ≡ suc k → (getD bs k 0 ≡ 10 → ⊥) → length (linesOf bs) ≡ feedsIn bs + 1
-lines-part k [] h d = absurd (omega arith)
-lines-part zero (c ∷ []) h d =
-    let one = lines-more c [] d ∙ ap (before c) lines-none in omega (arith, ap length one, before-none c, feeds-more c [] d)
-lines-part (suc k) (c ∷ []) h d = absurd (omega arith)
-lines-part zero (c ∷ b ∷ bs) h d = absurd (omega arith)
-lines-part (suc k) (c ∷ b ∷ bs) h d = omega (arith, lines-next c b bs, lines-part k (b ∷ bs) (omega arith) d)
+lines-part k bs h d = omega (arith, lines-count k bs h, feeds-more (getD bs k 0) [] d)

@@ -1,16 +1,9 @@
 -- Laws of lines: where one ends, what is left after it, and one that is cut because it is too long.
 -- Assumes nothing.
-use Prim.Native.Nat.{ℕ, zero, suc, _+_, _-_, _≤_, _<_}
-use mathlib.Core.Path.{_≡_, refl, sym, ap, _∙_}
-use mathlib.Core.Bool.{true, false, true≢false}
-use mathlib.Core.List.{List, [], _∷_}
-use native.Mathlib.Omega.{arith}
-use native.Mathlib.Numerals.{add-one}
-use native.Mathlib.Decide.{decLt, ℕ-discrete}
-use lib.ListN.{length, getD, take, drop, length-take, length-drop, drop-of-length-le}
-use lib.Seq.{take-all, drop-drop, getD-drop}
-use borrow.Author.Tests.{eq-eqb, ne-eqb}
-use Rattle.units.proofs.Choice.{yes-cond, no-cond}
+use Rattle.units.proofs.Common.{sym, _∙_, _≡_, refl, ap, true, false, true≢false, List, [], _∷_, ℕ, _≤_, _-_, _+_, _<_, suc, zero, add-one}
+use Rattle.units.proofs.Common.{ℕ-discrete, arith, length, drop, getD, take, length-drop, drop-of-length-le, length-take, take-all}
+use Rattle.units.proofs.Common.{getD-drop, drop-drop, eq-eqb, ne-eqb, yes-cond, no-cond}
+use native.Mathlib.Decide.{decLt}
 use Rattle.dialog.specs.Fields.{before}
 use Rattle.dialog.specs.Spoken.{spoken}
 use Rattle.dialog.specs.Dialog.{linesOf}
@@ -19,22 +12,6 @@ use Rattle.dialog.proofs.SpokenLaws.{too-long}
 use Rattle.gather.specs.Pieces.{lineIn, fed}
 
 -- ---- a byte more
-line-feed : (c : ℕ) (cs : List ℕ) → c ≡ 10 → lineIn (c ∷ cs) ≡ []
-unfolding lineIn
-line-feed c cs e = yes-cond _ (eq-eqb c 10 e)
-
-line-more : (c : ℕ) (cs : List ℕ) → (c ≡ 10 → ⊥) → lineIn (c ∷ cs) ≡ c ∷ lineIn cs
-unfolding lineIn
-line-more c cs d = no-cond _ (ne-eqb c 10 d)
-
-fed-feed : (c : ℕ) (cs : List ℕ) → c ≡ 10 → fed (c ∷ cs) ≡ true
-unfolding fed
-fed-feed c cs e = yes-cond _ (eq-eqb c 10 e)
-
-fed-more : (c : ℕ) (cs : List ℕ) → (c ≡ 10 → ⊥) → fed (c ∷ cs) ≡ fed cs
-unfolding fed
-fed-more c cs d = no-cond _ (ne-eqb c 10 d)
-
 pub lines-feed : (c : ℕ) (cs : List ℕ) → c ≡ 10 → linesOf (c ∷ cs) ≡ [] ∷ linesOf cs
 unfolding linesOf
 lines-feed c cs e = yes-cond _ (eq-eqb c 10 e)
@@ -48,8 +25,8 @@ line-first : (bs : List ℕ) → lineIn bs ≡ take (length (lineIn bs)) bs
 unfolding lineIn
 line-first [] = refl
 line-first (c ∷ cs) = elim (ℕ-discrete c 10) [
-  | yes e ↦ rw (line-feed c cs e)
-  | no d ↦ rw (line-more c cs d) (ap (λ (x : List ℕ). c ∷ x) (line-first cs))
+  | yes e ↦ rw (eq-eqb c 10 e)
+  | no d ↦ rw (ne-eqb c 10 d) (ap (λ (x : List ℕ). c ∷ x) (line-first cs))
 ]
 
 line-short : (bs : List ℕ) → length (lineIn bs) ≤ length bs
@@ -60,16 +37,16 @@ line-all : (bs : List ℕ) → fed bs ≡ false → lineIn bs ≡ bs
 unfolding lineIn fed
 line-all [] e = refl
 line-all (c ∷ cs) e = elim (ℕ-discrete c 10) [
-  | yes f ↦ absurd (true≢false (sym (fed-feed c cs f) ∙ e))
-  | no d ↦ line-more c cs d ∙ ap (λ (x : List ℕ). c ∷ x) (line-all cs (sym (fed-more c cs d) ∙ e))
+  | yes f ↦ absurd (true≢false (rw (eq-eqb c 10 f) at e))
+  | no d ↦ rw (ne-eqb c 10 d) (ap (λ (x : List ℕ). c ∷ x) (line-all cs (rw (ne-eqb c 10 d) at e)))
 ]
 
 line-less : (bs : List ℕ) → fed bs ≡ true → length (lineIn bs) < length bs
 unfolding lineIn fed
 line-less [] e = absurd (true≢false (sym e))
 line-less (c ∷ cs) e = elim (ℕ-discrete c 10) [
-  | yes f ↦ rw (line-feed c cs f) (omega arith)
-  | no d ↦ let h = line-less cs (sym (fed-more c cs d) ∙ e) in rw (line-more c cs d) (omega arith)
+  | yes f ↦ rw (eq-eqb c 10 f) (omega arith)
+  | no d ↦ let h = line-less cs (rw (ne-eqb c 10 d) at e) in rw (ne-eqb c 10 d) (omega arith)
 ]
 
 -- ---- the lines of what is left
@@ -81,21 +58,23 @@ pub lines-first : (bs : List ℕ) → 0 < length bs → linesOf bs ≡ lineIn bs
 unfolding linesOf lineIn before
 lines-first [] h = absurd (omega arith)
 lines-first (c ∷ []) h = elim (ℕ-discrete c 10) [
-  | yes e ↦ rw (line-feed c [] e, lines-feed c [] e)
-  | no d ↦ rw (line-more c [] d, lines-more c [] d)
+  | yes e ↦ rw (eq-eqb c 10 e)
+  | no d ↦ rw (ne-eqb c 10 d)
 ]
 lines-first (c ∷ b ∷ bs) h = elim (ℕ-discrete c 10) [
-  | yes e ↦ rw (line-feed c (b ∷ bs) e) (lines-feed c (b ∷ bs) e)
-  | no d ↦ lines-more c (b ∷ bs) d ∙ ap (before c) (lines-first (b ∷ bs) (omega arith)) ∙ rw (line-more c (b ∷ bs) d)
+  | yes e ↦ rw (eq-eqb c 10 e)
+  | no d ↦ rw (ne-eqb c 10 d) (ap (before c) (lines-first (b ∷ bs) (omega arith)))
 ]
 
 -- ---- at a place of the bytes
 module _ (bs : List ℕ) (at : ℕ) where
   pub at-feed : at < length bs → getD bs at 0 ≡ 10 → lineIn (drop at bs) ≡ []
-  at-feed h e = ap lineIn (next bs at 0 h) ∙ line-feed _ _ e
+  unfolding lineIn
+  at-feed h e = ap lineIn (next bs at 0 h) ∙ yes-cond _ (eq-eqb _ 10 e)
 
   pub at-other : at < length bs → (getD bs at 0 ≡ 10 → ⊥) → lineIn (drop at bs) ≡ getD bs at 0 ∷ lineIn (drop (at + 1) bs)
-  at-other h d = ap lineIn (next bs at 0 h) ∙ line-more _ _ d
+  unfolding lineIn
+  at-other h d = ap lineIn (next bs at 0 h) ∙ no-cond _ (ne-eqb _ 10 d)
 
   pub at-end : length bs ≤ at → lineIn (drop at bs) ≡ []
   unfolding lineIn
@@ -121,11 +100,12 @@ module _ (bs : List ℕ) (at : ℕ) where
 
 -- where the first bytes have no line feed, the line ends where it ends from past them
 line-past : (n : ℕ) (bs : List ℕ) → n ≤ length bs → fed (take n bs) ≡ false → length (lineIn bs) ≡ n + length (lineIn (drop n bs))
+unfolding lineIn fed
 line-past zero bs h e = omega arith
 line-past (suc n) [] h e = absurd (omega arith)
 line-past (suc n) (c ∷ cs) h e = elim (ℕ-discrete c 10) [
-  | yes f ↦ absurd (true≢false (sym (fed-feed c (take n cs) f) ∙ e))
-  | no d ↦ omega (arith, ap length (line-more c cs d), line-past n cs (omega arith) (sym (fed-more c (take n cs) d) ∙ e))
+  | yes f ↦ absurd (true≢false (rw (eq-eqb c 10 f) at e))
+  | no d ↦ let h = line-past n cs (omega arith) (rw (ne-eqb c 10 d) at e) in rw (ne-eqb c 10 d) (omega arith)
 ]
 
 pub block-past : (bs : List ℕ) (at n : ℕ) → at + n ≤ length bs → fed (take n (drop at bs)) ≡ false
@@ -135,19 +115,21 @@ block-past bs at n h e =
 
 -- whether there is a line feed, by a byte more
 fed-now : (bs : List ℕ) (k : ℕ) → k < length bs → getD bs k 0 ≡ 10 → fed (take (suc k) bs) ≡ true
+unfolding fed
 fed-now [] k h e = absurd (omega arith)
-fed-now (c ∷ cs) zero h e = fed-feed c [] e
+fed-now (c ∷ cs) zero h e = rw (eq-eqb c 10 e)
 fed-now (c ∷ cs) (suc k) h e = elim (ℕ-discrete c 10) [
-  | yes f ↦ fed-feed c (take (suc k) cs) f
-  | no d ↦ fed-more c (take (suc k) cs) d ∙ fed-now cs k (omega arith) e
+  | yes f ↦ rw (eq-eqb c 10 f)
+  | no d ↦ rw (ne-eqb c 10 d) (fed-now cs k (omega arith) e)
 ]
 
 fed-still : (bs : List ℕ) (k : ℕ) → k < length bs → (getD bs k 0 ≡ 10 → ⊥) → fed (take (suc k) bs) ≡ fed (take k bs)
+unfolding fed
 fed-still [] k h d = absurd (omega arith)
-fed-still (c ∷ cs) zero h d = fed-more c [] d
+fed-still (c ∷ cs) zero h d = rw (ne-eqb c 10 d)
 fed-still (c ∷ cs) (suc k) h d = elim (ℕ-discrete c 10) [
-  | yes f ↦ fed-feed c (take (suc k) cs) f ∙ sym (fed-feed c (take k cs) f)
-  | no n ↦ fed-more c (take (suc k) cs) n ∙ fed-still cs k (omega arith) d ∙ sym (fed-more c (take k cs) n)
+  | yes f ↦ rw (eq-eqb c 10 f)
+  | no n ↦ rw (ne-eqb c 10 n) (fed-still cs k (omega arith) d)
 ]
 
 module _ (bs : List ℕ) (at k : ℕ) (h : at + k < length bs) where

@@ -1,21 +1,12 @@
 -- Laws of comparing a written packet with the words lent, element by element.
 -- Assumes nothing.
-use Prim.Native.Nat.{ℕ, _+_, _≤_, _<_}
-use mathlib.Core.Path.{_≡_, refl, sym, ap, _∙_}
-use mathlib.Core.Bool.{Bool, true, false, cond, _&&_}
-use mathlib.Core.List.{List, [], _∷_}
-use native.Mathlib.Omega.{arith}
-use native.Mathlib.Decide.{ℕ-discrete}
-use lib.Dec.{eqb}
-use lib.ListN.{length, getD, take, drop, drop-of-length-le}
-use lib.Seq.{getD-take, take-at, length-take-le}
-use borrow.Author.Tests.{eq-eqb, ne-eqb}
-use Rattle.units.proofs.Choice.{yes-and, no-and, yes-cond}
+use Rattle.units.proofs.Common.{sym, _∙_, _≡_, refl, ap, true, false, Bool, cond, _&&_, List, [], _∷_, ℕ, _≤_, _+_, _<_, ℕ-discrete, arith}
+use Rattle.units.proofs.Common.{eqb, length, drop, getD, take, drop-of-length-le, length-take-le, take-at, getD-take, eq-eqb, ne-eqb}
+use Rattle.units.proofs.Common.{yes-and, no-and, yes-cond}
 use Rattle.text.proofs.Writing.{text-next}
 use Rattle.units.specs.declared.Words.{Words}
 use Rattle.meaning.specs.declared.packet.Written.the-variants.{Refused, Done}
-use Rattle.meaning.specs.Packet.{writtenCount, writtenOutput}
-use Rattle.meaning.specs.Call.{same}
+use Rattle.meaning.proofs.Terms.{writtenCount, writtenOutput, same}
 use Rattle.meaning.proofs.PacketLaws.{unrefused}
 
 -- ---- lists of different lengths are not the same

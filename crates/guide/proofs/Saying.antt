@@ -1,13 +1,8 @@
 -- Laws of a line: a text is said or left out, and what is said in turn goes on from place to place.
 -- Assumes nothing.
-use Prim.Native.Nat.{ℕ, suc, _+_, _-_, _≤_, _<_}
-use mathlib.Core.Path.{_≡_, refl, sym, ap, _∙_}
-use mathlib.Core.List.{List, [], _∷_}
-use native.Mathlib.Omega.{arith}
-use lib.ListN.{length, take, drop, set}
-use lib.Seq.{sets, take-set-le, drop-set-lt, take-take, drop-drop}
-use borrow.Author.Tests.{le-leb, lt-leb}
-use Rattle.units.proofs.Choice.{yes-cond, no-cond}
+use Rattle.units.proofs.Common.{sym, _∙_, _≡_, refl, ap, List, [], _∷_, ℕ, _≤_, _-_, _+_, _<_, suc, arith, length, drop, take, set, sets}
+use Rattle.units.proofs.Common.{drop-drop, take-take, le-leb, lt-leb, yes-cond, no-cond}
+use lib.Seq.{take-set-le, drop-set-lt}
 use Rattle.text.specs.Text.{Put}
 use Rattle.text.proofs.Writing.{put-then, put-as, put-length}
 use Rattle.guide.specs.Say.{fitting, GoesOn, Said, labelling, Labelled}
@@ -67,9 +62,11 @@ left-out o at room t h =
     }
 
 -- ---- a label and a text
-pub labelled : {o o₁ o₂ : List ℕ} {at a r : ℕ} (l t : List ℕ) (room : ℕ) → Said o at (length l) l o₁ a → Said o₁ a room t o₂ r → Labelled o at l room t o₂ r
+pub labelled : {o o₁ o₂ : List ℕ} {at a r : ℕ} (l t : List ℕ) (room : ℕ) → Said o at (length l) l o₁ a → Said o₁ a room t o₂ r → Labelled o
+    at l room t o₂ r
 unfolding labelling
 labelled {o} {o₁} {o₂} {at} {a} {r} l t room p q = record {
-  exact = put-then (p .exact) (put-as (ap (λ (k : ℕ). fitting k a room t) (put-length (p .exact)) ∙ ap (λ (k : ℕ). fitting (length o) k room t) (p .exact .next)) (q .exact));
+  exact = put-then (p .exact) (put-as (ap (λ (k : ℕ). fitting k a room t) (put-length (p .exact)) ∙ ap
+      (λ (k : ℕ). fitting (length o) k room t) (p .exact .next)) (q .exact));
   on = goes-then (p .on) (q .on);
 }

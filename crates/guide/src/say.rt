@@ -87,7 +87,8 @@ pub fn say_byte(out: &mut [u8], at: usize, label: &[u8], b: u8) -> usize
 }
 
 pub fn say_bytes(out: &mut [u8], at: usize, label: &[u8], bytes: &[u8]) -> usize
-    ensures { λ r. ⌜ Labelled (now (out .entry)) at (now (label .entry)) (2 * length (now (bytes .entry))) (bytesHexOf (now (bytes .entry))) (now (out .exit)) r ⌝ }
+    ensures { λ r. ⌜ Labelled (now (out .entry)) at (now (label .entry)) (2 * length (now (bytes .entry)))
+        (bytesHexOf (now (bytes .entry))) (now (out .exit)) r ⌝ }
 {
     let a = say(out, at, label);
     say_all(out, a, bytes)

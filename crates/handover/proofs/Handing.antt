@@ -1,19 +1,9 @@
 -- The oldest answer of a list, and an acknowledgement of it: on any machine whose parts were given.
 -- Assumes nothing.
-use Prim.Native.Nat.{ℕ, _<_}
-use mathlib.Core.Path.{_≡_, refl, sym, ap, _∙_, subst}
-use mathlib.Core.Bool.{true}
-use mathlib.Core.List.{List, _∷_}
-use native.Mathlib.Omega.{arith}
-use lib.ListN.{getD, set}
-use lib.Seq.{set-getD}
+use Rattle.units.proofs.Common.{sym, _∙_, _≡_, refl, ap, subst, true, List, _∷_, ℕ, _<_, arith, getD, set, set-getD}
 use Rattle.units.specs.declared.Words.{Words}
-use Rattle.meaning.specs.Bench.{full, isNode}
-use Rattle.meaning.specs.Gateway.{setNode, taken}
-use Rattle.meaning.specs.Call.{acknowledge, Said, refused, answered, done, step}
-use Rattle.state.specs.State.{freshNode, takenNode}
-use Rattle.state.specs.Machine.{Machine, machine, meaning, nodeSlot}
-use Rattle.state.specs.Consistent.{counts, unfit}
+use Rattle.meaning.proofs.Terms.{full, isNode, setNode, taken, acknowledge, Said, refused, answered, done, step}
+use Rattle.state.proofs.Terms.{freshNode, takenNode, Machine, machine, meaning, nodeSlot, counts, unfit}
 use Rattle.state.specs.declared.node.Node.{Node}
 use Rattle.state.specs.declared.State.{State}
 use Rattle.state.proofs.Read.{blank, node-any}

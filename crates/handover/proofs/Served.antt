@@ -1,24 +1,13 @@
 -- A call at a node, as the code decides it: the node's slot, and a promise without refusals 1 and 2.
 -- Assumes nothing.
-use Prim.Native.Nat.{ℕ, _+_, _≤_, _<_}
-use mathlib.Core.Path.{_≡_, refl, sym, ap, _∙_, subst}
-use mathlib.Core.Bool.{Bool, true, false, cond}
-use native.Mathlib.Omega.{arith}
-use mathlib.Core.List.{List}
-use lib.ListN.{length, getD, take, drop, set}
-use lib.Seq.{getD-drop}
-use borrow.Author.Tests.{eq-eqb}
-use Rattle.units.proofs.Choice.{yes-cond, no-cond}
-use Rattle.meaning.specs.Bench.{Bench, full, isNode}
-use Rattle.meaning.specs.Call.{Call, Said, refused, Outcome, step}
-use Rattle.state.specs.Machine.{Machine, nodeSlot, nodesIn, machine, meaning}
-use Rattle.state.specs.State.{freshNode, takenNode}
+use Rattle.units.proofs.Common.{sym, _∙_, _≡_, refl, ap, subst, true, false, Bool, cond, List, ℕ, _≤_, _+_, _<_, arith, length, drop, getD}
+use Rattle.units.proofs.Common.{take, set, getD-drop, eq-eqb, yes-cond, no-cond}
+use Rattle.meaning.proofs.Terms.{Bench, full, isNode, Call, Said, refused, Outcome, step, overall}
+use Rattle.state.proofs.Terms.{Machine, nodeSlot, nodesIn, meaning, freshNode, takenNode, counts, unfit}
 use Rattle.state.specs.declared.node.Node.{Node}
 use Rattle.store.specs.Changes.{withLists, Listed, takenAt}
 use Rattle.store.specs.Swept.{Takeable, Takes}
 use Rattle.units.specs.declared.Words.{Words}
-use Rattle.meaning.specs.Packet.{overall}
-use Rattle.state.specs.Consistent.{counts, unfit}
 use Rattle.state.proofs.Read.{blank, node-any}
 use Rattle.promise.specs.Obeyed.{spoken, Does, Obeyed, expected, Makes}
 use Rattle.promise.specs.declared.Reply.{Reply}
@@ -63,11 +52,13 @@ pub record Stands (m : Machine) (place : ℕ) (w : List ℕ) : Type 0 where
   pub most : length w ≤ overall 255
   pub inside : place + length w ≤ length (m .store)
 
-pub stands : (m : Machine) (fits : unfit full m ≡ 0) (n i : ℕ) (f : Found m n i) (some : 0 < getD (m .state .nodes) i blank .answers) (place : ℕ)
+pub stands : (m : Machine) (fits : unfit full m ≡ 0) (n i : ℕ) (f : Found m n i) (some : 0 < getD (m .state .nodes) i blank .answers)
+    (place : ℕ)
     → place ≡ placeOf (counts (m .state .held)) i → Stands m place (oldest full m fits n i (f .is) (f .slot) _ (f .at) some)
 stands m fits n i f some place e =
     let k = takes full m fits n i (f .is) (f .slot) (getD (m .state .nodes) i blank) (f .at) some in
-    let g : getD (drop place (m .store)) 0 0 ≡ getD (m .store) place 0 = getD-drop place (m .store) 0 0 ∙ ap (λ (j : ℕ). getD (m .store) j 0) (omega arith) in
+    let g : getD (drop place (m .store)) 0 0 ≡ getD (m .store) place 0 = getD-drop place (m .store) 0 0 ∙ ap
+    (λ (j : ℕ). getD (m .store) j 0) (omega arith) in
     let w : take (getD (drop place (m .store)) 0 0) (drop place (m .store)) ≡ k .oldest = rw e (k .stands) in
     record {
       says = rw e (k .says);
@@ -92,8 +83,10 @@ module _ (m : Machine) (fits : unfit full m ≡ 0) (n i : ℕ) (f : Found m n i)
 
   pub taken-listed : {store′ : List ℕ} {hs : List Words} {x : Node} → Takes full (m .state .held) i (m .store) store′ hs
       → x ≡ takenNode (getD (m .state .nodes) i blank)
-      → Listed full (m .store) store′ (m .state) (withLists (m .state) (set (m .state .nodes) i x) hs) (takenAt (nodesIn (m .store) (m .state .nodes)) i)
-  taken-listed t e = rw (e, t .held, t .words) (takes full m fits n i (f .is) (f .slot) (getD (m .state .nodes) i blank) (f .at) some .after)
+      → Listed full (m .store) store′ (m .state) (withLists (m .state) (set (m .state .nodes) i x) hs)
+      (takenAt (nodesIn (m .store) (m .state .nodes)) i)
+  taken-listed t e = rw (e, t .held, t .words) (takes full m fits n i (f .is) (f .slot) (getD (m .state .nodes) i blank) (f .at)
+      some .after)
 
 -- ---- the promise on a machine that has neither refusal
 module _ (b : Bench) (m : Machine) (fits : unfit b m ≡ 0) (c : Call) where
@@ -102,7 +95,8 @@ module _ (b : Bench) (m : Machine) (fits : unfit b m ≡ 0) (c : Call) where
   by-fit s m′ d = subst (λ (o : Outcome). Does b o m s m′) (yes-cond _ (eq-eqb _ _ fits)) d
 
   pub refusing : (k : ℕ) (r : Called) → r ≡ record { reply = Reply.Refused k; state = m .state } → Obeyed b c m (refused k) m
-      → Makes b (step b (meaning b m) c) (m .state) (m .store) (m .memory) r (m .store) (m .memory)
+      → Makes b (λ g. step b g c) (m .state) (m .store) (m .memory) r (m .store) (m .memory)
   unfolding spoken
   refusing k r e d =
-      subst (λ (r : Called). Makes b (step b (meaning b m) c) (m .state) (m .store) (m .memory) r (m .store) (m .memory)) (sym e) (by-fit (refused k) m d)
+      subst (λ (r : Called). Makes b (λ g. step b g c) (m .state) (m .store) (m .memory) r (m .store) (m .memory)) (sym e)
+      (by-fit (refused k) m d)

@@ -51,6 +51,7 @@ listed s i r = withLists s (set (s .nodes) i (r .node)) (r .held)
 -- on every such machine the meaning's step of an acknowledgement is brought about
 abbrev pub Acknowledges : Bench → ℕ → ℕ → Node → List Words → List ℕ → Listed → List ℕ → Type 0
 Acknowledges b number i own held store r store′ =
-    (n : ℕ) → isNode b n ≡ true → nodeSlot b n ≡ i → (s : State) (memory : List ℕ) → Slot i own held s → unfit b (machine s store memory) ≡ 0
+    (n : ℕ) → isNode b n ≡ true → nodeSlot b n ≡ i → (s : State) (memory : List ℕ) → Slot i own held s → unfit b (machine s store memory) ≡
+    0
     → Does b (step b (meaning b (machine s store memory)) (acknowledge n number)) (machine s store memory) (spoken (r .reply))
     (machine (listed s i r) store′ memory)

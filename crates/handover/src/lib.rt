@@ -11,6 +11,7 @@ use state::State;
 use state::node::Node;
 use store::take;
 use units::Form;
+use units::NODES;
 use units::Words;
 use units::packing::word;
 ghost use mathlib.Core.Path.{_≡_};
@@ -18,7 +19,7 @@ ghost use Prim.Native.Nat.{_+_, _≤_};
 ghost use lib.ListN.{length, getD, take, drop};
 ghost use Rattle.meaning.specs.Bench.{full};
 ghost use Rattle.meaning.specs.Call.{collect, acknowledge, step};
-ghost use Rattle.state.specs.Machine.{machine, meaning};
+ghost use Rattle.state.specs.Machine.{machine};
 ghost use Rattle.state.specs.Consistent.{unfit};
 ghost use Rattle.moves.specs.Moved.{putIn};
 ghost use Rattle.promise.specs.Obeyed.{Makes, Collects};
@@ -26,10 +27,11 @@ ghost use Rattle.handover.specs.Handed.{Listable, Acknowledges};
 
 pub fn acknowledge(s: State, node: u8, number: u16, store: &mut [u16], plaques: &[u8]) -> Called
     requires { ⌜ unfit full (machine s (now store) (now plaques)) ≡ 0 ⌝ }
-    ensures { λ r. ⌜ Makes full (step full (meaning full (machine s (now (store .entry)) (now (plaques .entry)))) (acknowledge node number)) s (now (store .entry)) (now (plaques .entry)) r (now (store .exit)) (now (plaques .entry)) ⌝ }
+    ensures { λ r. ⌜ Makes full (λ g. step full g (acknowledge node number)) s (now (store .entry)) (now (plaques .entry)) r
+        (now (store .exit)) (now (plaques .entry)) ⌝ }
 {
     let i = node_slot(node);
-    if 17 <= i {
+    if NODES <= i {
         return refused(s, 7);
     }
     let n = s.nodes[i];
@@ -53,8 +55,10 @@ pub fn acknowledge(s: State, node: u8, number: u16, store: &mut [u16], plaques: 
 
 // Copies the answer at a place of the store into out from a place on.
 fn copy_answer(store: &[u16], place: usize, out: &mut [u16], to: usize)
-    requires { ⌜ (place + getD (now store) place 0 ≤ length (now store)) × (1 ≤ getD (now store) place 0) × (to + getD (now store) place 0 ≤ length (now out)) ⌝ }
-    ensures { λ _. ⌜ now (out .exit) ≡ putIn (now (out .entry)) to (take (getD (now (store .entry)) place 0) (drop place (now (store .entry)))) ⌝ }
+    requires { ⌜ (place + getD (now store) place 0 ≤ length (now store)) × (1 ≤ getD (now store) place 0) ×
+        (to + getD (now store) place 0 ≤ length (now out)) ⌝ }
+    ensures { λ _. ⌜ now (out .exit) ≡ putIn (now (out .entry)) to
+        (take (getD (now (store .entry)) place 0) (drop place (now (store .entry)))) ⌝ }
 {
     let end = place + store[place] as usize;
     copy_in(&store[place..end], out, to);
@@ -70,10 +74,11 @@ pub fn collect(
     out: &mut [u16],
 ) -> Handout
     requires { ⌜ unfit full (machine s (now store) (now plaques)) ≡ 0 ⌝ }
-    ensures { λ r. ⌜ Collects full (collect form node (length (now (out .entry)))) (machine s (now (store .entry)) (now (plaques .entry))) r (now (out .entry)) (now (out .exit)) ⌝ }
+    ensures { λ r. ⌜ Collects full (collect form node (length (now (out .entry)))) (machine s (now (store .entry)) (now (plaques .entry)))
+        r (now (out .entry)) (now (out .exit)) ⌝ }
 {
     let i = node_slot(node);
-    if 17 <= i {
+    if NODES <= i {
         return Handout::Refused(7);
     }
     let n = s.nodes[i];
@@ -101,7 +106,7 @@ pub fn collect(
 // A node and the words that all nodes hold, after a call for its list; and what is said.
 pub struct Listed {
     pub node: Node,
-    pub held: [Words; 17],
+    pub held: [Words; NODES],
     pub reply: Reply,
 }
 
@@ -109,7 +114,7 @@ pub struct Listed {
 pub fn acknowledged(
     i: usize,
     own: Node,
-    held: [Words; 17],
+    held: [Words; NODES],
     number: u16,
     store: &mut [u16],
 ) -> Listed

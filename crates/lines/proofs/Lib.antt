@@ -1,4 +1,3 @@
 -- Laws that belong to no one function.
 pub mod Found
 pub mod Whole
-pub mod Told

@@ -1,5 +1,8 @@
 // The lines of the table: each from the place after its first field.
 use crate::Heard;
+use crate::LONGEST_ID;
+use crate::LONGEST_PLAQUE;
+use crate::MOST_WORDS;
 use fields::field::field_end;
 use fields::field::form_of;
 use fields::hex::count_words;
@@ -36,7 +39,7 @@ pub fn read_command(line: &[u8], at: usize, words: &mut [u16]) -> Heard
         return Heard::Unreadable;
     }
     let count = w.words;
-    if 256 < count {
+    if MOST_WORDS < count {
         return Heard::Unreadable;
     }
     put_words(line, end + 1, words);
@@ -86,11 +89,11 @@ pub fn read_arrive(line: &[u8], at: usize, id: &mut [u8], bytes: &mut [u8]) -> H
     if field_end(line, last) != line.len() {
         return Heard::Unreadable;
     }
-    if !is_bytes(&line[from..end], Bytes(16)) || !is_bytes(&line[last..], Bytes(2047)) {
+    if !is_bytes(&line[from..end], LONGEST_ID) || !is_bytes(&line[last..], LONGEST_PLAQUE) {
         return Heard::Unreadable;
     }
-    let named = put_bytes(&line[from..end], Bytes(16), id);
-    let held = put_bytes(&line[last..], Bytes(2047), bytes);
+    let named = put_bytes(&line[from..end], LONGEST_ID, id);
+    let held = put_bytes(&line[last..], LONGEST_PLAQUE, bytes);
     Heard::Arrive {
         node: n.node,
         id: named,

@@ -46,6 +46,13 @@ pub enum Heard {
     Store(u16, u16),
 }
 
+// The most words of a packet, bytes of an ID and of a plaque that a line may say.
+pub const MOST_WORDS: usize = 256;
+
+pub const LONGEST_ID: Bytes = Bytes(16);
+
+pub const LONGEST_PLAQUE: Bytes = Bytes(2047);
+
 // The longest line that is looked into.
 pub const LONGEST: usize = 4400;
 

@@ -1,9 +1,7 @@
 -- Every row of the closed cases of the night run holds; the checker computes them.
 -- Assumes nothing.
-use Prim.Native.Nat.{ℕ}
-use mathlib.Core.Path.{_≡_, refl}
-use mathlib.Core.List.{[]}
-use Rattle.meaning.specs.Cases.{unheld}
+use Rattle.units.proofs.Common.{_≡_, refl, [], ℕ}
+use Rattle.meaning.proofs.Terms.{unheld}
 use Rattle.meaning.proofs.Opened.{calls}
 use Rattle.text.specs.Text.{hexOf, decimalWithin, decimalOf, wordsLine}
 use Rattle.listing.specs.Records.{countWhole, plaqueWhole, commandWhole}

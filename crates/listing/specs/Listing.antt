@@ -31,6 +31,13 @@ handoverIn (answered quiet) = 0
 handoverIn (refused k) = 0
 handoverIn queued = 0
 
+-- "Files are at most 65,536 bytes", and no listing of such a file is longer than this
+abbrev pub longestFile : ℕ
+longestFile = 65536
+
+abbrev pub longestListing : ℕ
+longestListing = 2600000
+
 -- a command's line, and the gateway after it
 pub record Turn : Type 0 where
   pub line : List ℕ
@@ -79,7 +86,9 @@ module _ (b : Bench) where
   -- "Files are at most 65,536 bytes; a longer one gives `broken` alone."
   unfoldable pub fileLines : Gateway → List ℕ → List (List ℕ)
   fileLines g bs =
-      cond (leb (length bs) 65536) (cond (countWhole bs) (plaqueLines (countSaid bs) g (drop 2 bs)) (brokenLine ∷ [])) (brokenLine ∷ [])
+      cond (leb (length bs) longestFile)
+      (cond (countWhole bs) (plaqueLines (countSaid bs) g (drop 2 bs)) (brokenLine ∷ []))
+      (brokenLine ∷ [])
 
 -- the gateway that a night starts with: fresh, its plaque memory all 0
 unfoldable pub blank : Bench → Gateway

@@ -1,10 +1,6 @@
 -- How long the lines of a listing are.
 -- Assumes nothing.
-use Prim.Native.Nat.{ℕ, _+_, _^_, _≤_, _<_}
-use mathlib.Core.Path.{_≡_, refl}
-use mathlib.Core.List.{List}
-use native.Mathlib.Omega.{arith}
-use lib.ListN.{length, length-append}
+use Rattle.units.proofs.Common.{_≡_, refl, List, ℕ, _≤_, _+_, _<_, _^_, arith, length, length-append}
 use Rattle.text.specs.Text.{Put}
 use Rattle.text.proofs.Writing.{decimal-short}
 use Rattle.listing.specs.Lines.{numberLine, commandsLine, refusedLine, brokenLine}

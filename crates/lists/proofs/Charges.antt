@@ -1,21 +1,10 @@
 -- Held words, charges and room, for any number of nodes and any bench.
 -- Assumes nothing.
-use Prim.Native.Nat.{ℕ, zero, suc, _+_, _≤_, _<_, max}
-use mathlib.Core.Path.{_≡_}
-use mathlib.Core.Bool.{Bool, true, false}
-use mathlib.Core.List.{List, [], _∷_, map}
-use native.Mathlib.Omega.{arith}
-use lib.Dec.{leb}
-use lib.ListN.{length, take, getD, set, length-map, List·getD-map}
-use borrow.Author.Tests.{le-leb, lt-leb, leb-true}
-use Rattle.units.specs.Count.{every}
+use Rattle.units.proofs.Common.{_≡_, true, false, Bool, List, [], _∷_, ℕ, _≤_, _+_, _<_, suc, zero, max, arith, leb, length, getD, take}
+use Rattle.units.proofs.Common.{set, length-map, List·getD-map, le-leb, leb-true, lt-leb, every, yes-and, no-and, and-true}
 use Rattle.units.specs.declared.Words.{Words}
-use Rattle.units.proofs.Choice.{yes-and, no-and, and-true}
-use Rattle.meaning.specs.Bench.{Bench}
-use Rattle.meaning.specs.Gateway.{Node}
-use Rattle.meaning.specs.Room.{added, held}
-use Rattle.state.specs.Machine.{plain}
-use Rattle.state.specs.Consistent.{counts, chargesOf, bounded}
+use Rattle.meaning.proofs.Terms.{Bench}
+use Rattle.state.proofs.Terms.{counts, chargesOf, bounded}
 use Rattle.state.proofs.Lists.{every-get}
 use Rattle.lists.specs.Room.{roomFor}
 
@@ -32,14 +21,9 @@ charges-more share (x ∷ l) (suc i) h =
     let r : chargesOf share (take (suc i) l) ≡ chargesOf share (take i l) + max share (getD l i 0) = charges-more share l i (omega arith) in
     omega arith
 
--- ---- held words, as the state counts them ..
+-- ---- held words, as the state counts them
 pub length-words : (hs : List Words) → length (counts hs) ≡ length hs
 length-words hs = simp length-map
-
--- .. and as the store has them
-pub held-at : (ms : List Node) (i : ℕ) → getD (map held ms) i 0 ≡ held (getD ms i plain)
-unfolding added
-held-at ms i = List·getD-map held ms i plain
 
 -- no count passes a limit
 abbrev pub limited : ℕ → List ℕ → Bool

@@ -1,23 +1,12 @@
 -- The walk through the store finds exactly the layout: lists in order are in line and meet both bounds, and no other are. Any bench.
 -- Assumes nothing.
-use Prim.Native.Nat.{ℕ, zero, suc, _-_}
-use mathlib.Core.Path.{_≡_, refl, sym, ap, _∙_}
-use mathlib.Core.Bool.{Bool, true, false, _&&_, false≢true}
-use mathlib.Core.List.{List, [], _∷_, _++_, map, append-assoc}
-use lib.Dec.{eqb}
-use lib.ListN.{length, replicate}
-use borrow.Author.Tests.{eqb-true, eq-eqb}
-use Rattle.units.specs.Count.{every}
+use Rattle.units.proofs.Common.{sym, _∙_, _≡_, refl, ap, true, false, Bool, _&&_, false≢true, List, [], _∷_, _++_, map, append-assoc, ℕ}
+use Rattle.units.proofs.Common.{_-_, suc, zero, eqb, length, replicate, eq-eqb, eqb-true, every, yes-and, and-true}
 use Rattle.units.specs.declared.Words.{Words}
-use Rattle.units.proofs.Choice.{yes-and, and-true}
-use Rattle.meaning.specs.Bench.{Bench}
-use Rattle.meaning.specs.Call.{same}
+use Rattle.meaning.proofs.Terms.{Bench, same, wellFormed, added, held}
 use Rattle.meaning.specs.Gateway as M
-use Rattle.meaning.specs.Response.{wellFormed}
-use Rattle.meaning.specs.Room.{added, held}
-use Rattle.state.specs.Layout.{allLaid, storeOf, cuts, past}
-use Rattle.state.specs.Machine.{nodesIn}
-use Rattle.state.specs.Consistent.{inLayout, nodeAt, formed, counts, bounded, zeros, listed, listsOk}
+use Rattle.state.proofs.Terms.{allLaid, storeOf, cuts, past, nodesIn, nodeAt, formed, counts, bounded, zeros, listsOk}
+use Rattle.state.specs.Consistent.{inLayout, listed}
 use Rattle.state.specs.declared.node.Node.{Node}
 use Rattle.state.proofs.Lists.{both}
 use Rattle.state.proofs.Read.{same-is, is-same, cuts-laid, past-laid, laid-cuts, nodeFor, nodes-for, store-is}

@@ -1,17 +1,9 @@
 -- Where a node's answers begin, and where the last ones end: what the charges say of it. Any number of nodes.
 -- Assumes nothing.
-use Prim.Native.Nat.{ℕ, zero, suc, _+_, _≤_, _<_}
-use mathlib.Core.Path.{_≡_, ap, _∙_}
-use mathlib.Core.Bool.{true}
-use mathlib.Core.List.{List, [], _∷_}
-use native.Mathlib.Numerals.{add-one}
-use native.Mathlib.Omega.{arith}
-use lib.ListN.{length, take, drop, getD}
-use lib.Seq.{take-all}
-use borrow.Author.Tests.{leb-true}
-use Rattle.units.proofs.Choice.{and-true}
-use Rattle.meaning.specs.Bench.{Bench}
-use Rattle.state.specs.Consistent.{chargesOf, bounded}
+use Rattle.units.proofs.Common.{_∙_, _≡_, ap, true, List, [], _∷_, ℕ, _≤_, _+_, _<_, suc, zero, add-one, arith, length, drop, getD, take}
+use Rattle.units.proofs.Common.{take-all, leb-true, and-true}
+use Rattle.meaning.proofs.Terms.{Bench}
+use Rattle.state.proofs.Terms.{chargesOf, bounded}
 use Rattle.lists.specs.Room.{sum, placeOf}
 use Rattle.lists.proofs.Charges.{limited}
 

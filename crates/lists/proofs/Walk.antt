@@ -1,22 +1,11 @@
 -- A walk over the nodes and their answers: each way on, and each way out.
 -- Assumes nothing.
-use Prim.Native.Nat.{ℕ, suc, _+_, _-_, _≤_, _<_}
-use mathlib.Core.Path.{_≡_, ap, _∙_}
-use mathlib.Core.Bool.{Bool, true, false, _&&_}
-use mathlib.Core.List.{List, _∷_}
-use native.Mathlib.Nat.{add-zero, zero-add, add-assoc}
-use native.Mathlib.Numerals.{add-one}
-use native.Mathlib.Omega.{arith}
-use lib.Dec.{eqb}
-use lib.ListN.{length, drop, getD, drop-of-length-le}
-use lib.Seq.{drop-cons, drop-drop}
-use borrow.Author.Tests.{eq-eqb, ne-eqb}
-use Rattle.units.specs.Count.{every}
-use Rattle.meaning.specs.Bench.{Bench}
-use Rattle.meaning.specs.Response.{wellFormed}
-use Rattle.meaning.specs.Room.{added}
-use Rattle.state.specs.Layout.{behind, cuts, past}
-use Rattle.state.specs.Consistent.{nodeAt, zeros}
+use Rattle.units.proofs.Common.{_∙_, _≡_, ap, true, false, Bool, _&&_, List, _∷_, ℕ, _≤_, _-_, _+_, _<_, suc, add-zero, zero-add, add-one}
+use Rattle.units.proofs.Common.{arith, eqb, length, drop, getD, drop-of-length-le, drop-drop, drop-cons, eq-eqb, ne-eqb, every}
+use native.Mathlib.Nat.{add-assoc}
+use Rattle.meaning.proofs.Terms.{Bench, wellFormed, added}
+use Rattle.state.proofs.Terms.{cuts, past, nodeAt, zeros}
+use Rattle.state.specs.Layout.{behind}
 use Rattle.state.specs.declared.node.Node.{Node}
 use Rattle.lists.specs.Line.{okAnswer, inLine}
 use Rattle.lists.proofs.Answers.{ok-whole, first-at}
@@ -91,8 +80,7 @@ module _ (b : Bench) (x : Bool) (store : List ℕ) (i place : ℕ) where
         ∙ rw (first-at store place, drop-drop, s)
 
     pub go-bad : k < count → okAnswer b i (drop place store) ≡ false → x ≡ false
-    go-bad h o =
-        left (suc (count - (k + 1))) (omega arith) ∙ walk-bad b i (place - from) (drop place store) held ns hs (count - (k + 1)) o
+    go-bad h o = left (suc (count - (k + 1))) (omega arith) ∙ walk-bad b i (place - from) (drop place store) held ns hs (count - (k + 1)) o
 
     pub go-out : count ≤ k → held ≡ place - from → x ≡ inLine b (i + 1) (drop place store) ns hs
     go-out h q = left 0 (omega arith) ∙ walk-out b i (place - from) (drop place store) held ns hs (eq-eqb _ _ q) ∙ rw add-one

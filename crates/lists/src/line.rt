@@ -4,28 +4,31 @@ use meaning::packet::ResponseRead;
 use response::judge_response;
 use state::node::Node;
 use units::Form;
+use units::HUB;
+use units::NODES;
+use units::READERS;
 use units::Words;
 ghost use mathlib.Core.Path.{_≡_};
 ghost use Prim.Native.Nat.{_<_};
 ghost use lib.ListN.{drop};
-ghost use Rattle.meaning.specs.Bench.{full};
+ghost use Rattle.meaning.specs.Bench.{full, nodeCount};
 ghost use Rattle.state.specs.Consistent.{counts, nodeAt, zeros, bounded, listsOk};
 ghost use Rattle.lists.specs.Line.{okAnswer, inLine};
 
 // The node at an index of the nodes.
 pub fn node_at(i: usize) -> u8
-    requires { ⌜ i < 17 ⌝ }
+    requires { ⌜ i < nodeCount full ⌝ }
     ensures { λ r. ⌜ r ≡ nodeAt full i ⌝ }
 {
-    if i < 16 {
+    if i < READERS {
         return (i + 1) as u8;
     }
-    32
+    HUB
 }
 
 // Whether a response of the node at index i lies at a place of the store.
 pub fn answer_ok(store: &[u16], i: usize, place: usize) -> bool
-    requires { ⌜ i < 17 ⌝ }
+    requires { ⌜ i < nodeCount full ⌝ }
     ensures { λ r. ⌜ r ≡ okAnswer full i (drop place (now (store .entry))) ⌝ }
 {
     if store.len() <= place {
@@ -58,13 +61,13 @@ fn all_zero(store: &[u16], place: usize) -> bool
 
 // Whether the nodes' answers stand one behind the other from the front, each a response of its node, as many words as are counted, and
 // nothing but zeros behind them.
-fn in_line(nodes: [Node; 17], held: [Words; 17], store: &[u16]) -> bool
+fn in_line(nodes: [Node; NODES], held: [Words; NODES], store: &[u16]) -> bool
     ensures { λ r. ⌜ r ≡ inLine full 0 (now (store .entry)) nodes (counts held) ⌝ }
 {
     let mut fine = true;
     let mut place: usize = 0;
     let mut i: usize = 0;
-    'nodes: while i < 17 {
+    'nodes: while i < NODES {
         let n = nodes[i];
         let from = place;
         let mut k: u16 = 0;
@@ -90,11 +93,11 @@ fn in_line(nodes: [Node; 17], held: [Words; 17], store: &[u16]) -> bool
 }
 
 // Whether the held words meet both bounds.
-pub fn bounds_met(hs: [Words; 17]) -> bool
+pub fn bounds_met(hs: [Words; NODES]) -> bool
     ensures { λ r. ⌜ r ≡ bounded full (counts hs) ⌝ }
 {
     let mut i: usize = 0;
-    while i < 17 {
+    while i < NODES {
         let h = hs[i];
         if Words::LIMIT.0 < h.0 {
             return false;
@@ -105,7 +108,7 @@ pub fn bounds_met(hs: [Words; 17]) -> bool
 }
 
 // Whether the pending lists are as a consistent state has them.
-pub fn lists_ok(nodes: [Node; 17], held: [Words; 17], store: &[u16]) -> bool
+pub fn lists_ok(nodes: [Node; NODES], held: [Words; NODES], store: &[u16]) -> bool
     ensures { λ r. ⌜ r ≡ listsOk full (now (store .entry)) nodes held ⌝ }
 {
     if !in_line(nodes, held, store) {

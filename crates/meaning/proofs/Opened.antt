@@ -1,8 +1,7 @@
 -- What closed cases compute with. To name one of these on a line of `unfolding` opens every definition that its own line names.
 -- Assumes nothing.
-use Prim.Native.Nat.{ℕ}
-use Rattle.units.specs.Count.{every}
-use Rattle.units.specs.Stamp.{lastDay, isStamp}
+use Rattle.units.proofs.Common.{ℕ, every, isStamp}
+use Rattle.units.specs.Stamp.{lastDay}
 use Rattle.meaning.specs.Refusal.{refusal, wordAtFault}
 use Rattle.meaning.specs.Packet.{countWrong, lengthWrong, spareWrong, writtenCount, writtenOutput}
 use Rattle.meaning.specs.Table.{table, lookup, rowOf, suits, carries, carried}
@@ -17,8 +16,8 @@ use Rattle.meaning.specs.Response.{respondRefusal, writeResponse, respon
 use Rattle.meaning.specs.Gateway.{put, fresh, joined, onward, taken, emptied, swept}
 use Rattle.meaning.specs.Room.{added, shareOf, charge, total, charges, fits}
 use Rattle.meaning.specs.Call.{asked, judged, collecting, acknowledging, same, repeats, ranged, started, answer, tagNotFound, tagged}
-use Rattle.meaning.specs.Call.{obeyed, looked, left, arrived, commandIn, kindIn, bytesIn, atReader, ruled, governed, atHub}
-use Rattle.meaning.specs.Call.{named, serves, whom, lifted, fromDesk, heeded, tried, roomed, settled, step, run}
+use Rattle.meaning.specs.Call.{obeyed, looked, left, arrived, commandIn, kindIn, bytesIn, atReader, ruled, governed, atHub, named}
+use Rattle.meaning.specs.Call.{serves, whom, lifted, fromDesk, heeded, tried, roomed, settled, step, run}
 
 -- refusals, and what all packets share
 unfoldable pub parts : ℕ

@@ -5,11 +5,10 @@ use mathlib.Core.Path.{_≡_, sym, ap, _∙_}
 use mathlib.Core.List.{List, [], _∷_, _++_, append-assoc, append-nil}
 use native.Mathlib.Nat.{add-zero, sub-zero}
 use native.Mathlib.Omega.{arith}
-use lib.ListN.{length, take, drop, replicate, getD, set}
-use lib.ListN.{length-append, length-take, length-drop, length-replicate, take-append-drop, drop-of-length-le}
-use lib.ListN.{replicate-append-replicate, List·getD-append}
-use lib.Seq.{take-suc, drop-cons, take-at, drop-at, set-at, take-append-le, take-append-seam, drop-append-seam}
-use lib.Seq.{take-take, length-take-le, drop-append-add, drop-drop, getD-take, getD-drop, getD-append-add}
+use lib.ListN.{length, take, drop, replicate, getD, set, length-append, length-take, length-drop, length-replicate, take-append-drop}
+use lib.ListN.{drop-of-length-le, replicate-append-replicate, List·getD-append}
+use lib.Seq.{take-suc, drop-cons, take-at, drop-at, set-at, take-append-le, take-append-seam, drop-append-seam, take-take, length-take-le}
+use lib.Seq.{drop-append-add, drop-drop, getD-take, getD-drop, getD-append-add}
 use Rattle.moves.specs.Moved.{putIn, inserted, removed}
 
 module _ (d : List ℕ) (to : ℕ) (s : List ℕ) where
@@ -119,15 +118,6 @@ remove-is ws at end k h l =
     let f : at + length w + k ≡ end = omega arith in
     let g : drop k b ≡ drop end ws = drop-drop k (at + length w) ws ∙ ap (λ (i : ℕ). drop i ws) f in
     rw (← append-assoc (take at ws) w b, e, take-at p b (end - k) n, drop-append-add p b k, g, append-assoc)
-
-pub length-inserted : (ws : List ℕ) (at end : ℕ) (new : List ℕ) → at ≤ end → end + length new ≤ length ws
-    → length (inserted ws at end new) ≡ length ws
-unfolding inserted
-length-inserted ws at end new h l = simp (length-append, length-take, length-drop) (omega arith)
-
-pub length-removed : (ws : List ℕ) (at end k : ℕ) → at + k ≤ end → end ≤ length ws → length (removed ws at end k) ≡ length ws
-unfolding removed
-length-removed ws at end k h l = simp (length-append, length-take, length-drop, length-replicate) (omega arith)
 
 pub wipe-is : (ws : List ℕ) → putIn ws 0 (replicate (length ws - 0) 0) ≡ replicate (length ws) 0
 unfolding putIn

@@ -1,25 +1,15 @@
 -- The commands, a line each: what holds at each turn of the loop, and each way around it.
 -- Assumes nothing.
-use Prim.Native.Nat.{ℕ, _+_, _-_, _*_, _≤_, _<_}
-use mathlib.Core.Path.{_≡_, refl, sym, ap, _∙_, subst}
-use mathlib.Core.Bool.{true, false, not}
-use mathlib.Core.List.{List, [], _∷_, _++_, append-nil}
-use native.Mathlib.Omega.{arith}
-use lib.ListN.{length, getD, take, drop, length-append, length-drop}
-use lib.Seq.{sets, length-take-le}
-use borrow.Author.Tests.{ne-eqb}
+use Rattle.units.proofs.Common.{sym, _∙_, _≡_, refl, ap, subst, true, false, not, List, [], _∷_, _++_, append-nil, ℕ, _≤_, _-_, _+_, _<_}
+use Rattle.units.proofs.Common.{_*_, arith, length, drop, getD, take, length-drop, length-append, length-take-le, sets, ne-eqb}
 use Rattle.units.specs.Count.{twice}
 use Rattle.units.specs.declared.Words.{Words}
 use Rattle.units.specs.declared.Form.the-variants.{Register}
 use Rattle.units.specs.declared.stamp.Stamp.{Stamp}
-use Rattle.meaning.specs.Bench.{Bench, full, hub, isReader, isNode}
-use Rattle.meaning.specs.Gateway.{Gateway}
-use Rattle.meaning.specs.Command.{commandOf}
-use Rattle.meaning.specs.Call.{command, judged, commandIn, named, Outcome}
+use Rattle.meaning.proofs.Terms.{Bench, full, hub, isReader, isNode, Gateway, commandOf, command, judged, commandIn, named, Outcome}
 use Rattle.meaning.specs.declared.packet.Command.{Command}
 use Rattle.demands.proofs.Numbers.{who, judged-low, judged-given}
-use Rattle.state.specs.Machine.{Machine, machine, meaning}
-use Rattle.state.specs.Consistent.{unfit}
+use Rattle.state.proofs.Terms.{Machine, machine, meaning, unfit}
 use Rattle.state.specs.declared.State.{State}
 use Rattle.state.proofs.Read.{blank}
 use Rattle.promise.proofs.Accepted.{reader-suited}

@@ -1,18 +1,8 @@
 -- The listing, one record further: a plaque, the count, a command, the end.
 -- Assumes nothing.
-use Prim.Native.Nat.{ℕ, zero, suc, _+_, _-_, _*_, _≤_, _<_}
-use mathlib.Core.Path.{_≡_, refl, sym, ap, _∙_}
-use mathlib.Core.Bool.{true, false}
-use mathlib.Core.List.{List, [], _∷_, _++_}
-use native.Mathlib.Omega.{arith}
-use lib.ListN.{length, take, drop}
-use lib.Seq.{drop-drop}
-use borrow.Author.Tests.{eq-eqb, ne-eqb, le-leb, lt-leb}
-use Rattle.units.specs.Packing.{packed}
-use Rattle.units.proofs.Choice.{yes-cond, no-cond}
-use Rattle.meaning.specs.Bench.{Bench}
-use Rattle.meaning.specs.Gateway.{Gateway}
-use Rattle.meaning.specs.Call.{arrive, step}
+use Rattle.units.proofs.Common.{sym, _∙_, _≡_, refl, ap, true, false, List, [], _∷_, _++_, ℕ, _≤_, _-_, _+_, _<_, suc, _*_, zero, arith}
+use Rattle.units.proofs.Common.{length, drop, take, drop-drop, eq-eqb, ne-eqb, le-leb, lt-leb, packed, yes-cond, no-cond}
+use Rattle.meaning.proofs.Terms.{Bench, Gateway, arrive, step}
 use Rattle.listing.specs.Records.{countWhole, countSaid, plaqueWhole, plaqueNode, plaqueLength, plaqueId, plaqueBytes, plaqueSize}
 use Rattle.listing.specs.Records.{commandWhole, commandWords, commandLength, commandSize}
 use Rattle.listing.specs.Lines.{commandsLine, brokenLine, flat}

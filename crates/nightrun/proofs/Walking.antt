@@ -1,27 +1,18 @@
 -- The walk over a run file: a record at a place, and the file opened.
 -- Assumes nothing.
-use Prim.Native.Nat.{ℕ, _+_, _-_, _*_, _≤_}
-use mathlib.Core.Path.{_≡_, refl, sym, ap, _∙_, subst}
-use mathlib.Core.Bool.{true, false, false≢true}
-use mathlib.Core.List.{List, [], _∷_}
-use native.Mathlib.Omega.{arith}
-use native.Mathlib.Nat.{add-zero}
-use lib.ListN.{length, getD, take, drop, length-drop}
-use lib.Seq.{take-at, getD-drop, length-take-le}
+use Rattle.units.proofs.Common.{sym, _∙_, _≡_, refl, ap, subst, true, false, false≢true, List, [], _∷_, ℕ, _≤_, _-_, _+_, _*_, add-zero}
+use Rattle.units.proofs.Common.{arith, length, drop, getD, take, length-drop, length-take-le, getD-drop, take-at, packed, onto, yes-cond}
+use Rattle.units.proofs.Common.{no-cond, length-packed, length-onto}
 use Rattle.units.specs.Count.{twice}
-use Rattle.units.specs.Packing.{packed, onto}
 use Rattle.units.specs.declared.Bytes.{Bytes}
 use Rattle.units.specs.declared.Words.{Words}
 use Rattle.units.specs.declared.stamp.Stamp.{Stamp}
 use Rattle.units.specs.declared.Form.the-variants.{Register}
-use Rattle.units.proofs.Choice.{yes-cond, no-cond}
-use Rattle.units.proofs.PackingLaws.{length-packed, onto-fits, length-onto}
-use Rattle.meaning.specs.Bench.{Bench, full}
-use Rattle.meaning.specs.Call.{arrive, Said, step}
+use Rattle.units.proofs.PackingLaws.{onto-fits}
+use Rattle.meaning.proofs.Terms.{Bench, full, arrive, Said, step}
 use Rattle.command.specs.Judged.{judgedCommand}
 use Rattle.command.specs.declared.Judged.{Judged}
-use Rattle.state.specs.Machine.{Machine, machine, meaning}
-use Rattle.state.specs.Consistent.{unfit}
+use Rattle.state.proofs.Terms.{Machine, machine, meaning, unfit}
 use Rattle.state.specs.declared.State.{State}
 use Rattle.promise.specs.Obeyed.{Does}
 use Rattle.promise.proofs.Chains.{stepped}

@@ -1,19 +1,10 @@
 -- The whole night: from a blank gateway the lines of a file that was opened, joined, are the listing.
 -- Assumes nothing.
-use Prim.Native.Nat.{ℕ, _^_, _≤_, _<_}
-use mathlib.Core.Path.{_≡_, refl, sym, ap, _∙_}
-use mathlib.Core.Bool.{Bool, true, false, true≢false}
-use mathlib.Core.List.{List, [], _∷_, _++_, append-nil}
-use native.Mathlib.Omega.{arith}
-use native.Mathlib.Nat.{zero-add}
-use lib.Dec.{leb}
-use lib.ListN.{length}
-use lib.Seq.{sets, length-sets}
-use borrow.Author.Tests.{le-leb, lt-leb}
-use Rattle.units.proofs.Choice.{yes-cond, no-cond}
-use Rattle.meaning.specs.Bench.{full}
-use Rattle.meaning.specs.Gateway.{Gateway}
-use Rattle.state.specs.Machine.{Machine, meaning}
+use Rattle.units.proofs.Common.{sym, _∙_, _≡_, refl, ap, true, false, Bool, true≢false, List, [], _∷_, _++_, append-nil, ℕ, _≤_, _<_, _^_}
+use Rattle.units.proofs.Common.{zero-add, arith, leb, length, sets, le-leb, lt-leb, yes-cond, no-cond}
+use lib.Seq.{length-sets}
+use Rattle.meaning.proofs.Terms.{full, Gateway}
+use Rattle.state.proofs.Terms.{Machine, meaning}
 use Rattle.text.specs.Text.{Put}
 use Rattle.text.proofs.Writing.{put-as, put-then, put-length}
 use Rattle.listing.specs.Lines.{commandsLine, brokenLine, flat}

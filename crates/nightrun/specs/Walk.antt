@@ -18,7 +18,7 @@ use Rattle.state.specs.Consistent.{unfit}
 use Rattle.text.specs.Text.{Put}
 use Rattle.listing.specs.Records.{plaqueNode, plaqueLength, plaqueWhole, commandStamp, commandWords, commandLength, commandWhole}
 use Rattle.listing.specs.Lines.{commandsLine, brokenLine, flat}
-use Rattle.listing.specs.Listing.{arrived, commandLines, plaqueLines, fileLines, listing}
+use Rattle.listing.specs.Listing.{arrived, commandLines, plaqueLines, fileLines, listing, longestFile, longestListing}
 use Rattle.asking.specs.Ask.{longest}
 use Rattle.nightrun.specs.declared.Listed.{Listed}
 use Rattle.nightrun.specs.declared.walk.Walk.{Walk}
@@ -53,11 +53,12 @@ pub record Hears (file : List ℕ) (at : ℕ) (n : Words) (words : List ℕ) (r 
 abbrev pub toCome : Bench → List ℕ → Walk → Gateway → List (List ℕ)
 toCome b file w g = commandLines b (w .left) g (drop (w .at) file)
 
--- the walk is inside a file that is not too long, and the output has room for what is to come: 670 bytes for every 17 of the file, and `broken`
+-- the walk is inside a file that is not too long, and the output has room for what is to come: 670 bytes for every 17 of the file, and
+-- `broken`
 pub record Ready (file : ℕ) (w : Walk) (out to : ℕ) : Type 0 where
   pub inside : w .at ≤ file
-  pub short : file ≤ 65536
-  pub long : 2600000 ≤ out
+  pub short : file ≤ longestFile
+  pub long : longestListing ≤ out
   pub room : 17 * to ≤ 670 * w .at + 255
 
 -- all of them are written
@@ -74,7 +75,7 @@ pub record Stands (b : Bench) (file : List ℕ) (ls : List (List ℕ)) (o : Open
   pub lines : openLines b file o (meaning b m) ≡ ls
   pub sound : unfit b m ≡ 0
   pub inside : o .fine ≡ true → o .walk .at ≤ length file
-  pub short : o .fine ≡ true → length file ≤ 65536
+  pub short : o .fine ≡ true → length file ≤ longestFile
 
 abbrev pub Brings : Bench → ℕ → List ℕ → Gateway → Opened → Machine → Type 0
 Brings b n file g o m = Stands b file (plaqueLines b n g (drop 2 file)) o m
@@ -85,6 +86,6 @@ Opens b file g o m = Stands b file (fileLines b g file) o m
 -- ---- the whole: the listing's bytes at the front of the output, which has room for all of them and stays as it was past them; or, if it
 -- could be too short, all of it
 pub record Lists (file old new : List ℕ) (r : Listed) : Type 0 where
-  pub says : r ≡ cond (leb 2600000 (length old)) (Listed.Written (length (listing file))) Listed.TooShort
-  pub writes : new ≡ cond (leb 2600000 (length old)) (sets old 0 (listing file)) old
-  pub fits : leb 2600000 (length old) ≡ true → length (listing file) ≤ length old
+  pub says : r ≡ cond (leb longestListing (length old)) (Listed.Written (length (listing file))) Listed.TooShort
+  pub writes : new ≡ cond (leb longestListing (length old)) (sets old 0 (listing file)) old
+  pub fits : leb longestListing (length old) ≡ true → length (listing file) ≤ length old

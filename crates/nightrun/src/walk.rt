@@ -9,6 +9,7 @@ use meaning::table::Kind;
 use plaques::arrive;
 use runfile::CommandRecord;
 use runfile::CountRecord;
+use runfile::LONGEST;
 use runfile::PlaqueRecord;
 use runfile::read_command;
 use runfile::read_count;
@@ -16,6 +17,7 @@ use runfile::read_plaque;
 use state::State;
 use units::Bytes;
 use units::Form;
+use units::HUB;
 use units::Words;
 use units::packing::pack;
 use units::stamp::Stamp;
@@ -29,6 +31,7 @@ ghost use Rattle.state.specs.Consistent.{unfit};
 ghost use Rattle.listing.specs.Records.{commandStamp};
 ghost use Rattle.asking.specs.Ask.{longest};
 ghost use Rattle.nightrun.specs.Walk.{PlaqueHere, Arrives, CommandHere, Hears, Ready, Plays, Brings, Opens};
+ghost use Rattle.listing.specs.Listing.{longestFile};
 
 // Where the walk over the commands is, and how many are to come by the count.
 pub struct Walk {
@@ -140,7 +143,7 @@ pub fn play(
         let held = s.held;
         if h.refusal != 0 {
             to = put_refused(out, to, h.refusal);
-        } else if m.node == 32 {
+        } else if m.node == HUB {
             let nodes = s.nodes;
             let name = s.name;
             let r = hub_turn(nodes, held, name, t, kind, m, &packet[..n], store, out, to);
@@ -200,7 +203,7 @@ fn broken(state: State) -> Opened
 
 // The plaques, as many as the count says, arrived; and the command count.
 fn bring(file: &[u8], count: u16, s: State, store: &[u16], plaques: &mut [u8]) -> Opened
-    requires { ⌜ (2 ≤ length (now file)) × (length (now file) ≤ 65536) ⌝ }
+    requires { ⌜ (2 ≤ length (now file)) × (length (now file) ≤ longestFile) ⌝ }
     requires { ⌜ unfit full (machine s (now store) (now plaques)) ≡ 0 ⌝ }
     ensures { λ r. ⌜ Brings full count (now (file .entry)) (meaning full (machine s (now (store .entry)) (now (plaques .entry)))) r
         (machine (r .state) (now (store .entry)) (now (plaques .exit))) ⌝ }
@@ -235,7 +238,7 @@ pub fn open(file: &[u8], s: State, store: &[u16], plaques: &mut [u8]) -> Opened
     ensures { λ r. ⌜ Opens full (now (file .entry)) (meaning full (machine s (now (store .entry)) (now (plaques .entry)))) r
         (machine (r .state) (now (store .entry)) (now (plaques .exit))) ⌝ }
 {
-    if 65536 < file.len() {
+    if LONGEST < file.len() {
         return broken(s);
     }
     let CountRecord::Count(count) = read_count(file, 0) else {

@@ -1,22 +1,12 @@
 -- A command packet that is accepted: what its limits give the code, and what the meaning's step makes of it.
 -- Assumes nothing.
-use Prim.Native.Nat.{ℕ}
-use mathlib.Core.Path.{_≡_, refl, sym, ap, _∙_, subst}
-use mathlib.Core.Bool.{true, not}
-use mathlib.Core.List.{List}
-use native.Mathlib.Omega.{arith}
-use lib.ListN.{length}
-use borrow.Author.Tests.{eq-eqb, ne-eqb, not-false}
-use Rattle.units.specs.Stamp.{isStamp}
+use Rattle.units.proofs.Common.{sym, _∙_, _≡_, refl, ap, subst, true, not, List, ℕ, arith, length, eq-eqb, ne-eqb, not-false, isStamp}
+use Rattle.units.proofs.Common.{yes-cond}
 use Rattle.units.specs.declared.Form.{Form}
 use Rattle.units.specs.declared.stamp.Stamp.{Stamp}
-use Rattle.units.proofs.Choice.{yes-cond}
-use Rattle.meaning.specs.Refusal.{_when_, refusal}
-use Rattle.meaning.specs.Bench.{Bench, hub, isReader, isNode}
-use Rattle.meaning.specs.Gateway.{Gateway}
-use Rattle.meaning.specs.Table.{_to_, carries, carried}
-use Rattle.meaning.specs.Command.{commandOf, commandDoubts, commandResult, readCommand, commandData}
-use Rattle.meaning.specs.Call.{Said, Outcome, command, asked, judged, commandIn, kindIn, bytesIn, atReader, atHub, named, serves, step}
+use Rattle.meaning.proofs.Terms.{_when_, refusal, Bench, hub, isReader, isNode, Gateway, _to_, carries, carried, commandOf, commandDoubts}
+use Rattle.meaning.proofs.Terms.{commandResult, readCommand, commandData, Said, Outcome, command, asked, judged, commandIn, kindIn, bytesIn}
+use Rattle.meaning.proofs.Terms.{atReader, atHub, named, serves, step}
 use Rattle.meaning.specs.declared.table.OnPlaque.the-variants.{Fill, Read, Write, ReadId, Search}
 use Rattle.meaning.specs.declared.table.OfGateway.the-variants.{GetName, SetName, Initialise, ResetGateway, Clear}
 use Rattle.meaning.specs.declared.table.Kind.{Kind}
@@ -27,8 +17,7 @@ use Rattle.meaning.specs.declared.packet.CommandRead.the-variants as C
 use Rattle.meaning.proofs.Chain.{accepts, fine}
 use Rattle.meaning.proofs.CommandLaws.{read-is, data-length}
 use Rattle.demands.specs.Sound.{Sound}
-use Rattle.state.specs.Machine.{Machine}
-use Rattle.state.specs.Consistent.{unfit}
+use Rattle.state.proofs.Terms.{Machine, unfit}
 use Rattle.answers.specs.Ordered.{loadOf, Ready, ordered, heeding}
 use Rattle.promise.specs.Obeyed.{Does}
 use Rattle.promise.proofs.Tables.{hub-apart}
@@ -67,7 +56,11 @@ module _ (b : Bench) (t : Stamp) (f : Form) (ws : List ℕ) (e : judged b (comma
   unfolding Ready carried carries
   ready-for (K.Plaque Fill) q = let l = loaded (K.Plaque Fill) q in omega arith
   ready-for (K.Plaque Read) q = used (1 to 255) (m .size) refl (within-limits (K.Plaque Read) q .size) .1
-  ready-for (K.Plaque Write) q = (used (1 to 255) (m .size) refl (within-limits (K.Plaque Write) q .size) .1, sym (loaded (K.Plaque Write) q))
+  ready-for (K.Plaque Write) q = (
+    used (1 to 255) (m .size) refl (within-limits (K.Plaque Write) q .size) .1,
+    sym
+        (loaded (K.Plaque Write) q),
+  )
   ready-for (K.Plaque ReadId) q = tt
   ready-for (K.Plaque Search) q = tt
   ready-for K.Continuous q = let r = reads b m (within-limits K.Continuous q) in (r .size, r .delay, r .range, r .stops)
@@ -101,16 +94,19 @@ module _ (b : Bench) (t : Stamp) (f : Form) (ws : List ℕ) (e : judged b (comma
   for-reader d = reader-suited b (m .node) for-node (ap not (ne-eqb _ _ d))
 
   -- ---- the meaning's step
-  pub step-ordered : (g : Gateway) → isReader b (m .node) ≡ true → step b g (command t f ws) ≡ ordered b g t (kindIn b f ws) m (loadOf b m (commandData f ws))
+  pub step-ordered : (g : Gateway) → isReader b (m .node) ≡ true → step b g (command t f ws) ≡ ordered b g t (kindIn b f ws) m
+      (loadOf b m (commandData f ws))
   unfolding named commandIn commandOf atReader ordered bytesIn loadOf
   step-ordered g r = step-reader b g (command t f ws) (m .node) e refl r
 
-  pub step-heeding : (g : Gateway) → Sound b → m .node ≡ hub → step b g (command t f ws) ≡ heeding b g t (kindIn b f ws) (loadOf b m (commandData f ws))
+  pub step-heeding : (g : Gateway) → Sound b → m .node ≡ hub → step b g (command t f ws) ≡ heeding b g t (kindIn b f ws)
+      (loadOf b m (commandData f ws))
   unfolding named commandIn commandOf atHub serves heeding bytesIn loadOf
   step-heeding g ok h = step-hub b g (command t f ws) e h (hub-apart b ok) refl
 
   -- ---- as code hands its parts on
-  module _ {k : Kind} {c : Command} {words : List ℕ} (kind : k ≡ kindIn b f ws) (what : c ≡ commandIn f ws) (load : words ≡ commandData f ws) where
+  module _ {k : Kind} {c : Command} {words : List ℕ} (kind : k ≡ kindIn b f ws) (what : c ≡ commandIn f ws)
+      (load : words ≡ commandData f ws) where
     pub orderly : (c .node ≡ hub → ⊥) → (x : Machine) → unfit b x ≡ 0 → Orderly b t k c words x
     orderly d x fit =
         let q : commandIn f ws .node ≡ c .node = ap (λ (c : Command). c .node) (sym what) in

@@ -1,18 +1,9 @@
 -- The parts of a state taken out for a call and put back: what holds of every machine that they are parts of holds of this one.
 -- Assumes nothing.
-use Prim.Native.Nat.{ℕ, _-_, _≤_, _<_}
-use mathlib.Core.Path.{_≡_, refl, sym, subst}
-use mathlib.Core.Bool.{true}
-use mathlib.Core.List.{List}
-use native.Mathlib.Omega.{arith}
-use lib.ListN.{getD, set}
-use Rattle.units.specs.Stamp.{isStamp}
+use Rattle.units.proofs.Common.{sym, _≡_, refl, subst, true, List, ℕ, _≤_, _-_, _<_, arith, getD, set, isStamp}
 use Rattle.units.specs.declared.stamp.Stamp.{Stamp}
-use Rattle.meaning.specs.Bench.{full, isReader}
-use Rattle.meaning.specs.Gateway.{Gateway}
-use Rattle.meaning.specs.Call.{Outcome, Said, check, step}
-use Rattle.state.specs.Machine.{Machine, machine, meaning}
-use Rattle.state.specs.Consistent.{unfit}
+use Rattle.meaning.proofs.Terms.{full, isReader, Gateway, Outcome, Said, check, step}
+use Rattle.state.proofs.Terms.{Machine, machine, meaning, unfit}
 use Rattle.state.specs.declared.State.{State}
 use Rattle.state.proofs.Read.{blank}
 use Rattle.promise.specs.Obeyed.{spoken, Does}
@@ -32,10 +23,12 @@ module _ (m : Machine) (fit : unfit full m ≡ 0) where
   module _ (n i : ℕ) (is : isReader full n ≡ true) (at : i ≡ n - 1) where
     seat : Seat n (getD (m .state .nodes) i blank) (getD (m .state .readers) i blankReader) (m .state .held) (m .state)
     seat =
-        subst (λ (j : ℕ). Seat n (getD (m .state .nodes) j blank) (getD (m .state .readers) j blankReader) (m .state .held) (m .state)) (sym at)
+        subst (λ (j : ℕ). Seat n (getD (m .state .nodes) j blank) (getD (m .state .readers) j blankReader) (m .state .held) (m .state))
+        (sym at)
         (seat-of m fit n is)
 
-    pub seatable : Seatable full n (getD (m .state .nodes) i blank) (getD (m .state .readers) i blankReader) (m .state .held) (m .store) (m .memory)
+    pub seatable : Seatable full n (getD (m .state .nodes) i blank) (getD (m .state .readers) i blankReader) (m .state .held) (m .store)
+        (m .memory)
     seatable = record { is = is; state = m .state; seat = seat; fit = fit }
 
     pub first : 1 ≤ n
@@ -46,16 +39,27 @@ module _ (m : Machine) (fit : unfit full m ≡ 0) where
 
     -- the state with them at that index
     abbrev back : Seated → State
-    back r = record { name = m .state .name; readers = set (m .state .readers) i (r .reader); nodes = set (m .state .nodes) i (r .node); held = r .held }
+    back r = record {
+      name = m .state .name;
+      readers = set (m .state .readers) i (r .reader);
+      nodes = set (m .state .nodes) i (r .node);
+      held = r .held;
+    }
 
     pub seats-here : (o : Gateway → Outcome) (r : Seated) {store′ memory′ : List ℕ} {q : Called}
-        → Seats full o n (getD (m .state .nodes) i blank) (getD (m .state .readers) i blankReader) (m .state .held) (m .store) (m .memory) r store′ memory′
+        → Seats full o n (getD (m .state .nodes) i blank) (getD (m .state .readers) i blankReader) (m .state .held) (m .store) (m .memory) r
+        store′ memory′
         → q ≡ record { state = back r; reply = r .reply }
         → Does full (o (meaning full m)) m (spoken (q .reply)) (machine (q .state) store′ memory′)
     seats-here o r {store′} {memory′} {q} d e =
         subst (λ (q : Called). Does full (o (meaning full m)) m (spoken (q .reply)) (machine (q .state) store′ memory′)) (sym e)
         (subst (λ (j : ℕ). Does full (o (meaning full m)) m (spoken (r .reply))
-        (machine (record { name = m .state .name; readers = set (m .state .readers) j (r .reader); nodes = set (m .state .nodes) j (r .node); held = r .held }) store′ memory′))
+        (machine (record {
+          name = m .state .name;
+          readers = set (m .state .readers) j (r .reader);
+          nodes = set (m .state .nodes) j (r .node);
+          held = r .held;
+        }) store′ memory′))
         (sym at) (d (m .state) seat fit))
 
     -- a field check of it is the meaning's step

@@ -12,13 +12,14 @@ use promise::Called;
 use settle::Seated;
 use state::State;
 use units::Form;
+use units::HUB;
 use units::stamp::Stamp;
 ghost use Prim.Native.Nat.{_<_};
 ghost use mathlib.Core.Path.{_≡_};
 ghost use lib.ListN.{set};
 ghost use Rattle.meaning.specs.Bench.{full};
 ghost use Rattle.meaning.specs.Call as S;
-ghost use Rattle.state.specs.Machine.{machine, meaning};
+ghost use Rattle.state.specs.Machine.{machine};
 ghost use Rattle.state.specs.Consistent.{unfit};
 ghost use Rattle.promise.specs.Obeyed.{Makes};
 ghost use Rattle.answers.specs.Ordered.{loadOf, ordered, heeding};
@@ -26,8 +27,16 @@ ghost use Rattle.obey.specs.Taken.{Orderly, Heeded};
 
 // What a call made of the parts of the reader at an index, put back.
 fn seated(s: State, i: usize, r: Seated) -> Called
-    requires { ⌜ i < 16 ⌝ }
-    ensures { λ q. ⌜ q ≡ record { state = record { name = s .name; readers = set (s .readers) i (r .reader); nodes = set (s .nodes) i (r .node); held = r .held }; reply = r .reply } ⌝ }
+    requires { ⌜ i < full .readers ⌝ }
+    ensures { λ q. ⌜ q ≡ record {
+      state = record {
+        name = s .name;
+        readers = set (s .readers) i (r .reader);
+        nodes = set (s .nodes) i (r .node);
+        held = r .held;
+      };
+      reply = r .reply;
+    } ⌝ }
 {
     let mut u = s;
     let reader = r.reader;
@@ -51,7 +60,8 @@ fn order(
     plaques: &mut [u8],
 ) -> Called
     requires { ⌜ Orderly full t kind m (now words) (machine s (now store) (now plaques)) ⌝ }
-    ensures { λ r. ⌜ Makes full (ordered full (meaning full (machine s (now (store .entry)) (now (plaques .entry)))) t kind m (loadOf full m (now (words .entry)))) s (now (store .entry)) (now (plaques .entry)) r (now (store .exit)) (now (plaques .exit)) ⌝ }
+    ensures { λ r. ⌜ Makes full (λ g. ordered full g t kind m (loadOf full m (now (words .entry)))) s (now (store .entry))
+        (now (plaques .entry)) r (now (store .exit)) (now (plaques .exit)) ⌝ }
 {
     let i = (m.node - 1) as usize;
     let own = s.nodes[i];
@@ -72,7 +82,8 @@ fn rule(
     plaques: &[u8],
 ) -> Called
     requires { ⌜ Heeded full t kind m (now words) (machine s (now store) (now plaques)) ⌝ }
-    ensures { λ r. ⌜ Makes full (heeding full (meaning full (machine s (now (store .entry)) (now (plaques .entry)))) t kind (loadOf full m (now (words .entry)))) s (now (store .entry)) (now (plaques .entry)) r (now (store .exit)) (now (plaques .entry)) ⌝ }
+    ensures { λ r. ⌜ Makes full (λ g. heeding full g t kind (loadOf full m (now (words .entry)))) s (now (store .entry))
+        (now (plaques .entry)) r (now (store .exit)) (now (plaques .entry)) ⌝ }
 {
     let nodes = s.nodes;
     let held = s.held;
@@ -99,8 +110,8 @@ pub fn obey(
     plaques: &mut [u8],
 ) -> Called
     requires { ⌜ unfit full (machine s (now store) (now plaques)) ≡ 0 ⌝ }
-    ensures { λ r. ⌜ Makes full (S.step full (meaning full (machine s (now (store .entry)) (now (plaques .entry)))) (S.command t form (now (words .entry)))) s
-        (now (store .entry)) (now (plaques .entry)) r (now (store .exit)) (now (plaques .exit)) ⌝ }
+    ensures { λ r. ⌜ Makes full (λ g. S.step full g (S.command t form (now (words .entry)))) s (now (store .entry)) (now (plaques .entry))
+        r (now (store .exit)) (now (plaques .exit)) ⌝ }
 {
     let j = judge_command(t, form, words);
     if j.refusal != 0 {
@@ -109,7 +120,7 @@ pub fn obey(
     let kind = j.kind;
     let m = j.what;
     let data = command_data(words, form);
-    if m.node == 32 {
+    if m.node == HUB {
         return rule(s, t, kind, m, data, store, plaques);
     }
     order(s, t, kind, m, data, store, plaques)

@@ -1,23 +1,13 @@
 -- The field check of a reader: each way that the code returns is the definition's local outcome.
 -- Assumes nothing.
-use Prim.Native.Nat.{ℕ, _+_, _-_, _≤_}
-use mathlib.Core.Path.{_≡_, refl, sym, ap, _∙_}
-use mathlib.Core.Bool.{Bool, true, false, not, _||_}
-use mathlib.Core.List.{List}
-use native.Mathlib.Omega.{arith}
-use lib.Dec.{ltb, eqb}
-use lib.ListN.{length, take, drop}
-use lib.Seq.{slice}
-use borrow.Author.Tests.{le-leb, lt-leb, not-false}
+use Rattle.units.proofs.Common.{sym, _∙_, _≡_, refl, ap, true, false, Bool, not, _||_, List, ℕ, _≤_, _-_, _+_, arith, eqb, ltb, length}
+use Rattle.units.proofs.Common.{drop, take, slice, le-leb, not-false, lt-leb, yes-cond, no-cond, yes-or, no-or, or-false}
 use Rattle.units.specs.declared.Words.{Words}
 use Rattle.units.specs.declared.stamp.Stamp.{Stamp}
-use Rattle.units.proofs.Choice.{yes-cond, no-cond, yes-or, no-or, or-false}
-use Rattle.meaning.specs.Bench.{full}
+use Rattle.meaning.proofs.Terms.{full, on, Local, quiet, repeats, answer}
 use Rattle.meaning.specs.Gateway as M
-use Rattle.meaning.specs.Gateway.{on}
-use Rattle.meaning.specs.Call.{Local, quiet, repeats, answer}
 use Rattle.meaning.specs.declared.packet.Response.{Response}
-use Rattle.state.specs.Machine.{readerOf, fieldOf, modeOf, reportOf}
+use Rattle.state.proofs.Terms.{readerOf, fieldOf, modeOf, reportOf}
 use Rattle.state.specs.declared.reader.Reader.{Reader}
 use Rattle.promise.proofs.Readers.{withReading, reader-parts, reading-range, reported-ok, reported-means}
 use Rattle.promise.proofs.Locals as L
@@ -75,8 +65,7 @@ module _ (count clock n : ℕ) (t : Stamp) (x : Reader) (region : List ℕ) wher
           → seen count n t clock x region ≡ Local.give quiet (readerOf x region)
       go false p z e h = L.quiet-none n (bare count) t clock (readerOf x region) (no-cond _ p)
       go true p true e h = L.quiet-off n (bare count) t clock (readerOf x region) (yes-cond _ e)
-      go true p false e h =
-          L.quiet-repeat n (bare count) t clock (readerOf x region) _ _ (field x region p) _ _ _ _ (mode x region e) h
+      go true p false e h = L.quiet-repeat n (bare count) t clock (readerOf x region) _ _ (field x region p) _ _ _ _ (mode x region e) h
 
 -- ---- not quiet
 pub record Busy (x : Reader) (clock : ℕ) : Type 0 where

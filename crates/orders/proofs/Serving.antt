@@ -1,34 +1,21 @@
 -- Commands for a reader: each way that the code returns is the definition's local outcome.
 -- Assumes nothing.
-use Prim.Native.Nat.{ℕ, _+_, _-_, _%_, _≤_, _<_, min}
-use mathlib.Core.Path.{_≡_, refl, sym, ap, _∙_, subst}
-use mathlib.Core.Bool.{Bool, true, false, not, _&&_, cond}
-use mathlib.Core.List.{List, [], _∷_, _++_}
-use native.Mathlib.Omega.{arith}
-use lib.Dec.{leb, ltb, eqb}
-use lib.ListN.{length, take, drop, replicate, length-take}
-use lib.Seq.{paste, getD-take, take-take}
-use borrow.Author.Tests.{eqb-true, eq-eqb, le-leb, lt-leb, ltb-true, ltb-false}
-use Rattle.units.specs.Count.{every}
-use Rattle.units.specs.Packing.{bytesOf, byteAt}
+use Rattle.units.proofs.Common.{sym, _∙_, _≡_, refl, ap, subst, true, false, Bool, cond, not, _&&_, List, [], _∷_, _++_, ℕ, _≤_, _-_, _+_}
+use Rattle.units.proofs.Common.{_<_, _%_, min, arith, eqb, leb, ltb, length, drop, take, replicate, length-take, paste, getD-take}
+use Rattle.units.proofs.Common.{take-take, eq-eqb, le-leb, eqb-true, lt-leb, ltb-false, ltb-true, every, bytesOf, yes-cond, no-cond}
+use Rattle.units.specs.Packing.{byteAt}
 use Rattle.units.specs.declared.Words.{Words}
 use Rattle.units.specs.declared.stamp.Stamp.{Stamp}
-use Rattle.units.proofs.Choice.{yes-cond, no-cond}
-use Rattle.meaning.specs.Bench.{full}
-use Rattle.meaning.specs.Response.{responseBody, wellFormed, amountWrong}
-use Rattle.meaning.specs.Table.{rowOf, carried}
+use Rattle.meaning.proofs.Terms.{full, responseBody, wellFormed, amountWrong, rowOf, carried, plaque, Local, answer, tagNotFound, obeyed}
 use Rattle.meaning.specs.Gateway as M
-use Rattle.meaning.specs.Gateway.{plaque}
-use Rattle.meaning.specs.Call.{Local, answer, tagNotFound, obeyed, started}
+use Rattle.meaning.specs.Call.{started}
 use Rattle.meaning.specs.declared.table.OnPlaque.{OnPlaque}
 use Rattle.meaning.specs.declared.table.OnPlaque.the-variants.{Fill, Read, Write, ReadId, Search}
 use Rattle.meaning.specs.declared.table.Kind.{Kind}
 use Rattle.meaning.specs.declared.table.Kind.the-variants as K
 use Rattle.meaning.specs.declared.packet.Command.{Command}
 use Rattle.meaning.specs.declared.packet.Response.{Response}
-use Rattle.state.specs.State.{noReport}
-use Rattle.state.specs.Machine.{readerOf, fieldOf, modeOf, reportOf}
-use Rattle.state.specs.Consistent.{readerOk, readingOk, reportOk}
+use Rattle.state.proofs.Terms.{noReport, readerOf, fieldOf, modeOf, reportOf, readerOk, readingOk, reportOk}
 use Rattle.state.specs.declared.reader.Reading.{Reading}
 use Rattle.state.specs.declared.reader.Reader.{Reader}
 use Rattle.state.proofs.Lists.{both}
@@ -271,8 +258,7 @@ module _ (count : ℕ) {t : Stamp} {m : Command} {ws : List ℕ} {x : Reader} {r
         → y ≡ withReading x (record { start = 0; size = record { 0 = 0 }; delay = 0 }) noReport → d ≡ reply y C.Kept k
         → Obeys full count t K.ResetReader m ws x region d out
     unfolding obeyed readerOf modeOf reportOf altered Suits readingOk
-    stop-due a g s z w =
-        serves-good (turned-ok x (a .readable .inOrder) _ refl) (w ∙ ap (λ (y : Reader). reply y C.Kept k) z) g s tt refl
+    stop-due a g s z w = serves-good (turned-ok x (a .readable .inOrder) _ refl) (w ∙ ap (λ (y : Reader). reply y C.Kept k) z) g s tt refl
 
   -- ---- no command of a reader
   pub foreign : {k : Kind} → Servable full t k m ws x (length region) room

@@ -32,7 +32,8 @@ fn fill(
     region: &[u8],
     answer: &mut [u16],
 ) -> Decided
-    requires { ⌜ Servable full t (K.Plaque Fill) m (now words) x (length (now region)) (length (now answer)) × (x .plaque .present ≡ true) ⌝ }
+    requires { ⌜ Servable full t (K.Plaque Fill) m (now words) x (length (now region)) (length (now answer)) ×
+        (x .plaque .present ≡ true) ⌝ }
     ensures { λ d. ⌜ Obeys full count t (K.Plaque Fill) m (now (words .entry)) x (now (region .entry)) d (now (answer .exit)) ⌝ }
 {
     let plaque = x.plaque;
@@ -56,7 +57,8 @@ fn read(
     region: &[u8],
     answer: &mut [u16],
 ) -> Decided
-    requires { ⌜ Servable full t (K.Plaque Read) m (now words) x (length (now region)) (length (now answer)) × (x .plaque .present ≡ true) ⌝ }
+    requires { ⌜ Servable full t (K.Plaque Read) m (now words) x (length (now region)) (length (now answer)) ×
+        (x .plaque .present ≡ true) ⌝ }
     ensures { λ d. ⌜ Obeys full count t (K.Plaque Read) m (now (words .entry)) x (now (region .entry)) d (now (answer .exit)) ⌝ }
 {
     let plaque = x.plaque;
@@ -79,7 +81,8 @@ fn write(
     region: &[u8],
     answer: &mut [u16],
 ) -> Decided
-    requires { ⌜ Servable full t (K.Plaque Write) m (now words) x (length (now region)) (length (now answer)) × (x .plaque .present ≡ true) ⌝ }
+    requires { ⌜ Servable full t (K.Plaque Write) m (now words) x (length (now region)) (length (now answer)) ×
+        (x .plaque .present ≡ true) ⌝ }
     ensures { λ d. ⌜ Obeys full count t (K.Plaque Write) m (now (words .entry)) x (now (region .entry)) d (now (answer .exit)) ⌝ }
 {
     let plaque = x.plaque;

@@ -1,17 +1,15 @@
 -- Every row of the closed cases of a state with places holds; the checker computes them.
 -- Assumes nothing.
-use Prim.Native.Nat.{ℕ}
-use mathlib.Core.Path.{_≡_, refl}
-use mathlib.Core.List.{[]}
-use Rattle.meaning.specs.Cases.{unheld}
+use Rattle.units.proofs.Common.{_≡_, refl, [], ℕ}
+use Rattle.meaning.proofs.Terms.{unheld}
 use Rattle.meaning.proofs.Opened.{responseRead, gateway}
-use Rattle.state.specs.Machine.{fieldOf, reportOf, modeOf, regionOf, readerOf, seen, readersOf}
-use Rattle.state.specs.Consistent.{chargesOf, bounded, plaqueOk, readingOk, reportOk, readerOk, nameOk}
+use Rattle.state.proofs.Terms.{fieldOf, reportOf, modeOf, regionOf, readerOf, seen, readersOf, chargesOf, bounded, plaqueOk, readingOk}
+use Rattle.state.proofs.Terms.{reportOk, readerOk, nameOk}
 use Rattle.placed.specs.Machine.{answerAt, startsOf, pendingOf, nodeOf, nodesOf, meaning}
 use Rattle.placed.specs.Consistent.{okAnswer, overlap, clearOf, spots, inOrder, fineLists, heldsOf, counted, listClear, listsOk}
 use Rattle.placed.specs.Consistent.{nodeOk, arrays, consistent, lengths, lent, unfit}
-use Rattle.placed.specs.Cases.{lentCases, answerCases, sharingCases, countCases, boundCases, nodeCases, otherCases, stateCases}
-use Rattle.placed.specs.Cases.{flat, machineCases}
+use Rattle.placed.specs.Cases.{lentCases, answerCases, sharingCases, countCases, boundCases, nodeCases, otherCases, stateCases, flat}
+use Rattle.placed.specs.Cases.{machineCases}
 
 -- what the rows compute with: to name one of these on a line of `unfolding` opens all that its own line names
 unfoldable pub lists : ℕ

@@ -1,19 +1,9 @@
 -- What it is to lie at a place of the store. Any bench.
 -- Assumes nothing.
-use Prim.Native.Nat.{ℕ, zero, suc, _+_, _≤_}
-use mathlib.Core.Path.{_≡_, refl, sym, ap, _∙_}
-use mathlib.Core.Bool.{Bool, true, false, _&&_, and-false}
-use mathlib.Core.List.{List, [], _∷_}
-use native.Mathlib.Nat.{add-zero}
-use lib.Dec.{leb}
-use lib.ListN.{length, take, drop, getD}
-use lib.Seq.{getD-drop}
-use borrow.Author.Tests.{le-leb}
-use Rattle.units.proofs.Choice.{and-true}
-use Rattle.meaning.specs.Bench.{Bench}
-use Rattle.meaning.specs.Packet.{wordNo}
-use Rattle.meaning.specs.Response.{wellFormed}
-use Rattle.state.specs.Consistent.{nodeAt}
+use Rattle.units.proofs.Common.{sym, _∙_, _≡_, refl, ap, true, false, Bool, _&&_, and-false, List, [], _∷_, ℕ, _≤_, _+_, suc, zero}
+use Rattle.units.proofs.Common.{add-zero, leb, length, drop, getD, take, getD-drop, le-leb, and-true}
+use Rattle.meaning.proofs.Terms.{Bench, wordNo, wellFormed}
+use Rattle.state.proofs.Terms.{nodeAt}
 use Rattle.state.proofs.Lists.{both}
 use Rattle.lists.specs.Line as L
 use Rattle.lists.proofs.Answers as A

@@ -1,19 +1,11 @@
 -- Lists that are fine: each answer in order as one of its node's; lists whose words are counted; and that these lie inside the store.
 -- Assumes nothing.
-use Prim.Native.Nat.{ℕ, zero, suc, _+_, _*_, _≤_, _<_}
-use mathlib.Core.Path.{_≡_, refl, ap, _∙_}
-use mathlib.Core.Bool.{true, cond}
-use mathlib.Core.List.{List, [], _∷_, _++_, map}
-use native.Mathlib.Nat.{add-zero, zero-add, add-suc, suc-add}
-use native.Mathlib.Omega.{arith}
-use lib.Dec.{eqb}
-use lib.ListN.{length, getD, length-append, length-map, List·getD-append, List·getD-map}
-use borrow.Author.Tests.{eqb-true}
-use Rattle.units.specs.Count.{every}
-use Rattle.units.proofs.Choice.{and-true}
-use Rattle.meaning.specs.Bench.{Bench}
-use Rattle.meaning.specs.Room.{added, held}
-use Rattle.state.specs.Consistent.{bounded}
+use Rattle.units.proofs.Common.{_∙_, _≡_, refl, ap, true, cond, List, [], _∷_, _++_, map, ℕ, _≤_, _+_, _<_, suc, _*_, zero, add-zero}
+use Rattle.units.proofs.Common.{zero-add, arith, eqb, length, getD, length-append, length-map, List·getD-map, List·getD-append, eqb-true}
+use Rattle.units.proofs.Common.{every, and-true}
+use native.Mathlib.Nat.{add-suc, suc-add}
+use Rattle.meaning.proofs.Terms.{Bench, added, held}
+use Rattle.state.proofs.Terms.{bounded}
 use Rattle.state.proofs.Lists.{getD-any, every-get}
 use Rattle.placed.specs.Consistent.{okAnswer, clearOf, spots, inOrder, fineLists, heldsOf, counted, listClear, listsOk}
 use Rattle.placed.specs.Walked.{wordsOf}

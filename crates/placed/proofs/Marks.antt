@@ -1,18 +1,11 @@
 -- Marks of used words, and the walk over the pending answers. A store of any size, any bench.
 -- Assumes nothing.
-use Prim.Native.Nat.{ℕ, suc, _+_, _-_, _≤_, _<_, max, min}
-use mathlib.Core.Path.{_≡_, refl, sym, _∙_}
-use mathlib.Core.Logic.{⊎-elim}
-use mathlib.Core.Bool.{Bool, true, false, _&&_, _||_, and-false}
-use mathlib.Core.List.{List, [], _∷_, _++_, map}
+use Rattle.units.proofs.Common.{sym, _∙_, _≡_, refl, ⊎-elim, true, false, Bool, _&&_, _||_, and-false, List, [], _∷_, _++_, map, ℕ, _≤_}
+use Rattle.units.proofs.Common.{_-_, _+_, _<_, suc, min, max, arith, leb, ltb, length, drop, getD, set, length-set, drop-of-length-le}
+use Rattle.units.proofs.Common.{drop-cons, getD-set-same, le-leb, lt-leb, le-ltb, lt-ltb, no-and, or-false}
 use native.Mathlib.Nat.{sub-zero}
-use native.Mathlib.Omega.{arith}
-use lib.Dec.{leb, ltb}
-use lib.ListN.{length, drop, getD, set, length-set, drop-of-length-le}
-use lib.Seq.{getD-set-same, getD-set-other, drop-cons}
-use borrow.Author.Tests.{lt-ltb, le-ltb, le-leb, lt-leb}
-use Rattle.units.proofs.Choice.{no-and, or-false}
-use Rattle.meaning.specs.Bench.{Bench}
+use lib.Seq.{getD-set-other}
+use Rattle.meaning.proofs.Terms.{Bench}
 use Rattle.placed.specs.Consistent.{overlap, clearOf, okAnswer, spots, inOrder, fineLists}
 use Rattle.placed.specs.Machine.{startsOf}
 use Rattle.placed.specs.State.{freshNode}

@@ -1,16 +1,9 @@
 -- Refusals 1 and 2 of a state with places, part by part: what is known where there is neither, and what has to be shown for it.
 -- Assumes nothing.
-use Prim.Native.Nat.{_+_, _*_}
-use mathlib.Core.Path.{_≡_, refl, ap, _∙_}
-use mathlib.Core.Bool.{true, not}
-use lib.Dec.{eqb}
-use lib.ListN.{length}
-use borrow.Author.Tests.{eqb-true, eq-eqb, not-false}
-use Rattle.units.specs.Count.{every}
-use Rattle.units.proofs.Choice.{and-true}
-use Rattle.meaning.specs.Bench.{Bench}
+use Rattle.units.proofs.Common.{_∙_, _≡_, refl, ap, true, not, _+_, _*_, eqb, length, eq-eqb, not-false, eqb-true, every, and-true}
+use Rattle.meaning.proofs.Terms.{Bench}
 use Rattle.meaning.proofs.Chain.{accepts, fine, none, pass-if}
-use Rattle.state.specs.Consistent.{readerOk, nameOk}
+use Rattle.state.proofs.Terms.{readerOk, nameOk}
 use Rattle.state.proofs.Lists.{both}
 use Rattle.placed.specs.Machine.{Machine}
 use Rattle.placed.specs.Consistent.{listsOk, nodeOk, arrays, consistent, lengths, lent, unfit}

@@ -1,13 +1,9 @@
 -- Where a node's answers begin: the first at a place, each other behind the one before it. Any store.
 -- Assumes nothing.
-use Prim.Native.Nat.{ℕ, zero, suc, _+_, _*_, _≤_, _<_}
-use mathlib.Core.Path.{_≡_, refl}
-use mathlib.Core.List.{List, _∷_, map}
-use native.Mathlib.Nat.{add-zero, mul-suc}
-use native.Mathlib.Numerals.{add-one}
-use native.Mathlib.Omega.{arith}
-use lib.ListN.{length, getD, length-map}
-use Rattle.meaning.specs.Room.{added}
+use Rattle.units.proofs.Common.{_≡_, refl, List, _∷_, map, ℕ, _≤_, _+_, _<_, suc, _*_, zero, add-zero, add-one, arith, length, getD}
+use Rattle.units.proofs.Common.{length-map}
+use native.Mathlib.Nat.{mul-suc}
+use Rattle.meaning.proofs.Terms.{added}
 use Rattle.placed.specs.Machine.{answerAt, startsOf, pendingOf}
 use Rattle.placed.specs.declared.Pending.{Pending}
 use Rattle.placed.proofs.Formed.{first-word}

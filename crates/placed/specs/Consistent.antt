@@ -8,7 +8,7 @@ use lib.Dec.{leb, ltb, eqb}
 use lib.ListN.{length, getD}
 use Rattle.units.specs.Count.{every}
 use Rattle.meaning.specs.Refusal.{Doubts, _when_, _orElse_, refusal}
-use Rattle.meaning.specs.Bench.{Bench}
+use Rattle.meaning.specs.Bench.{Bench, nodeCount, memorySize}
 use Rattle.meaning.specs.Response.{wellFormed}
 use Rattle.meaning.specs.Room.{added}
 use Rattle.state.specs.Consistent.{nodeAt, bounded, readerOk, nameOk}
@@ -65,7 +65,7 @@ nodeOk n = leb 1 (n .handover)
 
 -- the arrays have the lengths that the code's types give them
 unfoldable pub arrays : Bench → State → Bool
-arrays b s = eqb (length (s .name .bytes)) 64 && (eqb (length (s .readers)) (b .readers) && eqb (length (s .nodes)) (b .readers + 1))
+arrays b s = eqb (length (s .name .bytes)) 64 && (eqb (length (s .readers)) (b .readers) && eqb (length (s .nodes)) (nodeCount b))
 
 unfoldable pub consistent : Bench → Machine → Bool
 consistent b m =
@@ -75,7 +75,7 @@ consistent b m =
 
 -- ---- refusals 1 and 2
 unfoldable pub lengths : Bench → Machine → Bool
-lengths b m = eqb (length (m .store)) (b .store) && eqb (length (m .memory)) (b .readers * b .region)
+lengths b m = eqb (length (m .store)) (b .store) && eqb (length (m .memory)) (memorySize b)
 
 unfoldable pub lent : Bench → Machine → Doubts
 lent b m = 1 when not (lengths b m) orElse 2 when not (consistent b m)

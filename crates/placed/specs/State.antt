@@ -5,6 +5,7 @@ use Rattle.state.specs.State.{freshReader, nothing}
 use Rattle.placed.specs.declared.Pending.{Pending}
 use Rattle.placed.specs.declared.Node.{Node}
 use Rattle.placed.specs.declared.State.{State}
+use Rattle.meaning.specs.Bench.{full, nodeCount}
 
 abbrev pub noAnswers : Pending
 noAnswers = record { count = 0; place = 0; words = nothing }
@@ -16,6 +17,6 @@ freshNode = record { instance = 0; handover = 1; list = noAnswers }
 abbrev pub freshState : State
 freshState = record {
   name = record { length = record { 0 = 0 }; bytes = replicate 64 0 };
-  readers = replicate 16 freshReader;
-  nodes = replicate 17 freshNode;
+  readers = replicate (full .readers) freshReader;
+  nodes = replicate (nodeCount full) freshNode;
 }

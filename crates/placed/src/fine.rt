@@ -3,6 +3,7 @@ use crate::Node;
 use crate::Pending;
 use lists::line::answer_ok;
 use lists::line::bounds_met;
+use units::NODES;
 use units::Words;
 ghost use mathlib.Core.Path.{_≡_};
 ghost use mathlib.Core.Logic.{_⊎_};
@@ -19,9 +20,11 @@ ghost use Rattle.placed.specs.Consistent.{fineLists, counted, listClear,
 ghost use Rattle.placed.specs.Walked.{InStore, wordsOf};
 ghost use Rattle.placed.specs.Marks.{Marked, Free, Taken};
 
+const STORE: usize = Words::STORE.0 as usize;
+
 // Whether no word of an answer is marked.
-fn all_free(used: &[bool; 4096], place: usize, len: usize) -> bool
-    requires { ⌜ place + len ≤ 4096 ⌝ }
+fn all_free(used: &[bool; STORE], place: usize, len: usize) -> bool
+    requires { ⌜ place + len ≤ full .store ⌝ }
     ensures { λ r. ⌜ ((r ≡ true) × Free (now (used .entry)) place len) ⊎ ((r ≡ false) × Taken (now (used .entry)) place len) ⌝ }
 {
     let end = place + len;
@@ -35,8 +38,8 @@ fn all_free(used: &[bool; 4096], place: usize, len: usize) -> bool
     true
 }
 
-fn mark(used: &mut [bool; 4096], place: usize, len: usize)
-    requires { ⌜ (place + len ≤ 4096) × (length (now used) ≡ 4096) ⌝ }
+fn mark(used: &mut [bool; STORE], place: usize, len: usize)
+    requires { ⌜ (place + len ≤ full .store) × (length (now used) ≡ full .store) ⌝ }
     ensures { λ _. ⌜ Marked (now (used .entry)) (now (used .exit)) place len ⌝ }
 {
     let end = place + len;
@@ -48,14 +51,14 @@ fn mark(used: &mut [bool; 4096], place: usize, len: usize)
 }
 
 // Whether every answer is in order and no two share a word. A word is marked when an answer has it.
-fn fine_lists(nodes: [Node; 17], store: &[u16]) -> bool
+fn fine_lists(nodes: [Node; NODES], store: &[u16]) -> bool
     requires { ⌜ length (now store) ≡ full .store ⌝ }
     ensures { λ r. ⌜ r ≡ fineLists full (now (store .entry)) nodes ⌝ }
 {
-    let mut used = [false; 4096];
+    let mut used = [false; STORE];
     let mut fine = true;
     let mut i: usize = 0;
-    'nodes: while i < 17 {
+    'nodes: while i < NODES {
         let n = nodes[i];
         let list = n.list;
         let count = list.count;
@@ -97,12 +100,12 @@ fn is_counted(list: Pending, i: usize, store: &[u16]) -> bool
     list.words.0 as usize == sum
 }
 
-fn all_counted(nodes: [Node; 17], store: &[u16]) -> bool
+fn all_counted(nodes: [Node; NODES], store: &[u16]) -> bool
     requires { ⌜ (length (now store) ≡ full .store) × (fineLists full (now store) nodes ≡ true) ⌝ }
     ensures { λ r. ⌜ r ≡ every (counted (now (store .entry))) nodes ⌝ }
 {
     let mut i: usize = 0;
-    while i < 17 {
+    while i < NODES {
         let n = nodes[i];
         let list = n.list;
         if !is_counted(list, i, store) {
@@ -114,13 +117,13 @@ fn all_counted(nodes: [Node; 17], store: &[u16]) -> bool
 }
 
 // The words that the lists count.
-pub fn helds(nodes: [Node; 17]) -> [Words; 17]
+pub fn helds(nodes: [Node; NODES]) -> [Words; NODES]
     ensures { λ r. ⌜ counts r ≡ wordsOf nodes ⌝ }
 {
     let zero = Words(0);
-    let mut hs = [zero; 17];
+    let mut hs = [zero; NODES];
     let mut i: usize = 0;
-    while i < 17 {
+    while i < NODES {
         let n = nodes[i];
         let list = n.list;
         let h = list.words;
@@ -131,11 +134,11 @@ pub fn helds(nodes: [Node; 17]) -> [Words; 17]
 }
 
 // Whether the lists that have no answer have no place.
-fn lists_clear(nodes: [Node; 17]) -> bool
+fn lists_clear(nodes: [Node; NODES]) -> bool
     ensures { λ r. ⌜ r ≡ every listClear nodes ⌝ }
 {
     let mut i: usize = 0;
-    while i < 17 {
+    while i < NODES {
         let n = nodes[i];
         let list = n.list;
         if list.count == 0 && list.place != 0 {
@@ -147,7 +150,7 @@ fn lists_clear(nodes: [Node; 17]) -> bool
 }
 
 // Whether the pending lists are as a consistent state has them.
-pub fn lists_ok(nodes: [Node; 17], store: &[u16]) -> bool
+pub fn lists_ok(nodes: [Node; NODES], store: &[u16]) -> bool
     requires { ⌜ length (now store) ≡ full .store ⌝ }
     ensures { λ r. ⌜ r ≡ listsOk full (now (store .entry)) nodes ⌝ }
 {

@@ -8,6 +8,8 @@ use fit::readers_ok;
 use state::Name;
 use state::reader::Reader;
 use units::Bytes;
+use units::NODES;
+use units::READERS;
 use units::Words;
 ghost use mathlib.Core.Path.{_≡_};
 ghost use Rattle.units.specs.Count.{every};
@@ -32,16 +34,16 @@ pub struct Node {
 // Readers are in node order; so are nodes, and the gateway's own is the last.
 pub struct State {
     pub name: Name,
-    pub readers: [Reader; 16],
-    pub nodes: [Node; 17],
+    pub readers: [Reader; READERS],
+    pub nodes: [Node; NODES],
 }
 
 // The other fields of a node may have any value.
-fn nodes_ok(nodes: [Node; 17]) -> bool
+fn nodes_ok(nodes: [Node; NODES]) -> bool
     ensures { λ r. ⌜ r ≡ every nodeOk nodes ⌝ }
 {
     let mut i: usize = 0;
-    while i < 17 {
+    while i < NODES {
         let n = nodes[i];
         if n.handover < 1 {
             return false;

@@ -1,23 +1,12 @@
 -- A plaque that arrives or leaves changes its reader and nothing else of the parts: what the meaning's step makes of it, on any machine
 -- that they are parts of.
 -- Assumes nothing.
-use Prim.Native.Nat.{ℕ, _-_, _*_, _≤_}
-use mathlib.Core.Path.{_≡_, refl, sym, ap, _∙_, subst}
-use mathlib.Core.Bool.{true, false, not}
-use mathlib.Core.List.{List}
-use lib.Dec.{leb, eqb}
-use lib.ListN.{length, set}
-use lib.Seq.{paste, set-getD}
-use borrow.Author.Tests.{eqb-true, leb-true, not-false}
-use Rattle.units.specs.Count.{within}
+use Rattle.units.proofs.Common.{sym, _∙_, _≡_, refl, ap, subst, true, false, not, List, ℕ, _≤_, _-_, _*_, eqb, leb, length, set, paste}
+use Rattle.units.proofs.Common.{set-getD, not-false, eqb-true, leb-true, within, and-true}
 use Rattle.units.specs.declared.Words.{Words}
-use Rattle.units.proofs.Choice.{and-true}
-use Rattle.meaning.specs.Refusal.{_when_}
-use Rattle.meaning.specs.Bench.{full, isReader}
-use Rattle.meaning.specs.Call.{arrive, leave, refused, answered, done, asked, judged, step}
+use Rattle.meaning.proofs.Terms.{_when_, full, isReader, arrive, leave, refused, answered, done, asked, judged, step}
 use Rattle.meaning.proofs.Chain.{accepts, fine}
-use Rattle.state.specs.State.{freshNode, noPlaque}
-use Rattle.state.specs.Machine.{Machine, machine, meaning}
+use Rattle.state.proofs.Terms.{freshNode, noPlaque, Machine, machine, meaning}
 use Rattle.state.specs.declared.node.Node.{Node}
 use Rattle.state.specs.declared.reader.Reader.{Reader}
 use Rattle.state.specs.declared.State.{State}

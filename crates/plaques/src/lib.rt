@@ -8,6 +8,7 @@ use state::State;
 use state::node::Node;
 use state::reader::Reader;
 use units::Bytes;
+use units::NODES;
 use units::Words;
 ghost use mathlib.Core.Path.{_≡_};
 ghost use mathlib.Core.Bool.{true};
@@ -17,7 +18,7 @@ ghost use lib.ListN.{length};
 ghost use lib.Seq.{paste};
 ghost use Rattle.meaning.specs.Bench.{full, isReader};
 ghost use Rattle.meaning.specs.Call.{leave, arrive, judged, step};
-ghost use Rattle.state.specs.Machine.{machine, meaning};
+ghost use Rattle.state.specs.Machine.{machine};
 ghost use Rattle.state.specs.Consistent.{unfit};
 ghost use Rattle.promise.specs.Obeyed.{Makes};
 ghost use Rattle.settle.specs.Settled.{Seats};
@@ -50,7 +51,7 @@ fn eight(id: &[u8]) -> [u8; Bytes::ID.0 as usize]
 }
 
 // A plaque leaves, on the parts of its reader.
-pub fn left(own: Node, x: Reader, held: [Words; 17]) -> Seated
+pub fn left(own: Node, x: Reader, held: [Words; NODES]) -> Seated
     ensures { λ r. ⌜ ((n : ℕ) (store memory : List ℕ) → isReader full n ≡ true
         → Seats full (λ g. step full g (leave n)) n own x held store memory r store memory) ⌝ }
 {
@@ -77,13 +78,14 @@ pub fn brought(
     node: u8,
     own: Node,
     x: Reader,
-    held: [Words; 17],
+    held: [Words; NODES],
     id: &[u8],
     bytes: &[u8],
     plaques: &mut [u8],
 ) -> Seated
     requires { ⌜ (judged full (arrive node (now id) (now bytes)) ≡ 0) × (length (now plaques) ≡ full .readers * full .region) ⌝ }
-    ensures { λ r. ⌜ ((store : List ℕ) → Seats full (λ g. step full g (arrive node (now (id .entry)) (now (bytes .entry)))) node own x held store
+    ensures { λ r. ⌜ ((store : List ℕ) → Seats full (λ g. step full g (arrive node (now (id .entry)) (now (bytes .entry)))) node own x
+        held store
         (now (plaques .entry)) r store (now (plaques .exit))) ⌝ }
 {
     let i = (node - 1) as usize;
@@ -99,7 +101,8 @@ pub fn brought(
 
 pub fn leave(s: State, node: u8, store: &[u16], plaques: &[u8]) -> Called
     requires { ⌜ unfit full (machine s (now store) (now plaques)) ≡ 0 ⌝ }
-    ensures { λ r. ⌜ Makes full (step full (meaning full (machine s (now (store .entry)) (now (plaques .entry)))) (leave node)) s (now (store .entry)) (now (plaques .entry)) r (now (store .entry)) (now (plaques .entry)) ⌝ }
+    ensures { λ r. ⌜ Makes full (λ g. step full g (leave node)) s (now (store .entry)) (now (plaques .entry)) r (now (store .entry))
+        (now (plaques .entry)) ⌝ }
 {
     let i = reader_slot(node);
     if 16 <= i {
@@ -128,7 +131,8 @@ pub fn arrive(
     plaques: &mut [u8],
 ) -> Called
     requires { ⌜ unfit full (machine s (now store) (now plaques)) ≡ 0 ⌝ }
-    ensures { λ r. ⌜ Makes full (step full (meaning full (machine s (now (store .entry)) (now (plaques .entry)))) (arrive node (now (id .entry)) (now (bytes .entry)))) s (now (store .entry)) (now (plaques .entry)) r (now (store .entry)) (now (plaques .exit)) ⌝ }
+    ensures { λ r. ⌜ Makes full (λ g. step full g (arrive node (now (id .entry)) (now (bytes .entry)))) s (now (store .entry))
+        (now (plaques .entry)) r (now (store .entry)) (now (plaques .exit)) ⌝ }
 {
     let i = reader_slot(node);
     if 16 <= i {

@@ -1,15 +1,11 @@
 -- What is known of an accepted command, by its kind.
 -- Assumes nothing.
-use Prim.Native.Nat.{ℕ, _+_, _≤_}
-use mathlib.Core.Path.{_≡_, refl, sym, ap, _∙_}
-use mathlib.Core.Bool.{Bool, true, false, not, _||_, cond, false≢true}
-use mathlib.Core.List.{List, [], _∷_}
-use lib.Dec.{leb, ltb, eqb}
-use borrow.Author.Tests.{eqb-true, eq-eqb, leb-true, ltb-false, not-true, not-false}
-use Rattle.units.proofs.Choice.{and-true, and-false, or-false}
-use Rattle.meaning.specs.Bench.{Bench, hub, isReader, isNode}
-use Rattle.meaning.specs.Table.{Entry, _to_, row, stranger, timeout, any, unused, table, lookup, rowOf, suits}
-use Rattle.meaning.specs.Command.{whoDoubts, limitDoubts, outside, delayWrong, rangeWrong}
+use Rattle.units.proofs.Common.{sym, _∙_, _≡_, refl, ap, true, false, Bool, cond, not, false≢true, _||_, List, [], _∷_, ℕ, _≤_, _+_, eqb}
+use Rattle.units.proofs.Common.{leb, ltb, eq-eqb, not-false, not-true, eqb-true, leb-true, ltb-false, and-true, or-false}
+use Rattle.units.proofs.Choice.{and-false}
+use Rattle.meaning.proofs.Terms.{Bench, hub, isReader, isNode, _to_, table, lookup, rowOf, suits, whoDoubts, limitDoubts, rangeWrong}
+use Rattle.meaning.specs.Table.{Entry, row, stranger, timeout, any, unused}
+use Rattle.meaning.specs.Command.{outside, delayWrong}
 use Rattle.meaning.specs.declared.table.OnPlaque.the-variants.{Fill, Read, Write, ReadId, Search}
 use Rattle.meaning.specs.declared.table.OfGateway.the-variants.{GetName, SetName, Initialise, ResetGateway, Clear}
 use Rattle.meaning.specs.declared.table.Kind.{Kind}
@@ -51,10 +47,16 @@ unfolding lookup
 lookup-all P c [] a z = z
 lookup-all P c (e ∷ es) a z = cond-row P (eqb c (e .byte)) (e .rule) (lookup c es) (a .0) (lookup-all P c es (a .1) z)
 
+-- one after the other
+infixr 5 _then_
+pub _then_ : {A B : Type 0} → A → B → A × B
+a then b = (a, b)
+
 regular : (b : Bench) → All (λ e. Regular b (e .rule)) (table b)
 unfolding table suits
 regular b =
-    (λ _ _. refl, (λ _ _. refl, (λ _ _. refl, (λ _ _. refl, (λ _ _. refl, (continuous (b .continuous), (λ _ _. refl, (λ _ _. refl, (λ _ _. refl, (λ _ _. refl, (λ _ _. refl, (λ _ _. refl, tt))))))))))))
+    (λ _ _. refl) then (λ _ _. refl) then (λ _ _. refl) then (λ _ _. refl) then (λ _ _. refl) then continuous (b .continuous)
+    then (λ _ _. refl) then (λ _ _. refl) then (λ _ _. refl) then (λ _ _. refl) then (λ _ _. refl) then (λ _ _. refl) then tt
   where
     continuous : (t : Bool) → Regular b (row (cond t K.Continuous K.Unknown) Nothing (0 to 60) any (0 to 255))
     continuous true n e = refl
@@ -124,6 +126,9 @@ reads b m a =
       size = used (0 to 255) (m .size) refl (a .size) .1;
       delay = used (0 to 60) (m .word4) refl (a .word4) .1;
       range = ltb-false _ _ (r .0);
-      stops = λ e. let z = eq-eqb (m .size) 0 e in
-          (eqb-true _ _ (not-false _ (and-false (eqb (m .size) 0) _ (r .1) z)), eqb-true _ _ (not-false _ (and-false (eqb (m .size) 0) _ (a .delay) z)));
+      stops = λ e. let z = eq-eqb (m .size) 0 e in (
+        eqb-true _ _ (not-false _ (and-false (eqb (m .size) 0) _ (r .1) z)),
+        eqb-true _ _
+            (not-false _ (and-false (eqb (m .size) 0) _ (a .delay) z)),
+      );
     }

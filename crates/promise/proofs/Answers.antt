@@ -1,23 +1,13 @@
 -- What a node's answer is by the code's count, and that it is well formed as one of its node's.
 -- Assumes nothing.
-use Prim.Native.Nat.{ℕ, _-_, _≤_, _<_}
-use mathlib.Core.Path.{_≡_, sym, ap, _∙_}
-use mathlib.Core.Bool.{true}
-use mathlib.Core.List.{List}
-use native.Mathlib.Omega.{arith}
-use lib.ListN.{length}
-use borrow.Author.Tests.{eq-eqb, lt-ltb, le-ltb}
-use Rattle.units.specs.Stamp.{isStamp}
+use Rattle.units.proofs.Common.{sym, _∙_, _≡_, ap, true, List, ℕ, _≤_, _-_, _<_, arith, length, eq-eqb, le-ltb, lt-ltb, isStamp, yes-cond}
+use Rattle.units.proofs.Common.{no-cond}
 use Rattle.units.specs.declared.Form.the-variants.{Register}
 use Rattle.units.specs.declared.stamp.Stamp.{Stamp}
-use Rattle.units.proofs.Choice.{yes-cond, no-cond}
-use Rattle.meaning.specs.Bench.{Bench, hub, isReader, isNode}
-use Rattle.meaning.specs.Response.{bears, shown, wellFormed}
-use Rattle.meaning.specs.Gateway.{Node}
-use Rattle.meaning.specs.Call.{answer, tagNotFound}
+use Rattle.meaning.proofs.Terms.{Bench, hub, isReader, isNode, bears, shown, wellFormed, Node, answer, tagNotFound}
 use Rattle.demands.specs.Sound.{Sound}
 use Rattle.demands.proofs.Answers.{answer-read, tagNotFound-read}
-use Rattle.state.specs.Consistent.{nodeAt}
+use Rattle.state.proofs.Terms.{nodeAt}
 use Rattle.lists.proofs.Answers.{read-formed}
 use Rattle.promise.proofs.Tables.{reader-range}
 
@@ -31,11 +21,13 @@ pub hub-index : (b : Bench) → nodeAt b (b .readers) ≡ hub
 hub-index b = no-cond _ (le-ltb (b .readers) (b .readers) (omega arith))
 
 -- ---- well formed, as one of the node at index i: n - 1 for a reader, the number of readers for the gateway
-module _ (b : Bench) (ok : Sound b) (n i : ℕ) (at : nodeAt b i ≡ n) (x : Node) (t : Stamp) (known : isNode b n ≡ true) (good : isStamp t ≡ true) (w : List ℕ) where
+module _ (b : Bench) (ok : Sound b) (n i : ℕ) (at : nodeAt b i ≡ n) (x : Node) (t : Stamp) (known : isNode b n ≡ true)
+    (good : isStamp t ≡ true) (w : List ℕ) where
   pub answer-formed : (echo : ℕ) (s : List ℕ) → w ≡ answer n x t echo s → echo < 256 → length s ≤ 255 → wellFormed b (nodeAt b i) w ≡ true
   unfolding shown bears
   answer-formed echo s e small short =
-      ap (wellFormed b (nodeAt b i)) e ∙ read-formed b _ _ _ _ (answer-read b ok n x t known good Register echo s small short) ∙ eq-eqb _ _ (sym at)
+      ap (wellFormed b (nodeAt b i)) e ∙ read-formed b _ _ _ _ (answer-read b ok n x t known good Register echo s small short) ∙ eq-eqb _ _
+      (sym at)
 
   pub not-found-formed : w ≡ tagNotFound n x t → wellFormed b (nodeAt b i) w ≡ true
   unfolding shown bears

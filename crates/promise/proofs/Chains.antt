@@ -1,36 +1,21 @@
 -- A chain of calls, each as promised, from a machine that is in order: it says what the meaning's run says, and means what that comes to.
 -- Assumes nothing.
-use Prim.Native.Nat.{ℕ, zero, suc, _*_}
-use mathlib.Core.Path.{_≡_, refl, sym, ap, _∙_, fun-ext}
-use mathlib.Core.Bool.{Bool, true, false, cond, false≢true}
-use mathlib.Core.List.{List, [], _∷_, map}
-use lib.ListN.{length, getD, replicate, length-replicate}
-use borrow.Author.Tests.{eq-eqb}
-use Rattle.units.specs.Count.{every}
-use Rattle.units.proofs.Choice.{yes-cond}
-use Rattle.meaning.specs.Bench.{Bench, full, isReader, isNode}
+use Rattle.units.proofs.Common.{needs, sym, _∙_, _≡_, refl, ap, fun-ext, true, false, Bool, cond, false≢true, List, [], _∷_, ℕ, suc, _*_}
+use Rattle.units.proofs.Common.{zero, length, getD, replicate, length-replicate, eq-eqb, every}
+use Rattle.meaning.proofs.Terms.{Bench, full, isReader, isNode, Gateway, fresh, Call, Said, refused, answered, queued, step, run, added}
 use Rattle.meaning.specs.Gateway as M
-use Rattle.meaning.specs.Gateway.{Gateway, fresh}
-use Rattle.meaning.specs.Call.{Call, Said, refused, answered, queued, Outcome, step, run}
-use Rattle.meaning.specs.Room.{added}
 use Rattle.demands.specs.Sound.{full-sound}
 use Rattle.demands.specs.Demand.{Line, line, log, kept, struck, stays, Ease}
 use Rattle.demands.proofs.Room.{refusal-changes-nothing}
 use Rattle.demands.proofs.Alone.{strike-out}
-use Rattle.state.specs.State.{nothing, freshReader, freshNode}
-use Rattle.state.specs.Machine.{Machine, meaning, seen, nodeSlot, readerSlot, nodesIn, nodesOf, readersOf, readerOf, fieldOf, modeOf, regionOf, plain}
-use Rattle.state.specs.Layout.{laid, allLaid, cuts, past}
-use Rattle.state.specs.Consistent.{formed, chargesOf, bounded, listsOk, nodeOk, plaqueOk, readingOk, reportOk, readerOk, nameOk, unfit}
+use Rattle.state.proofs.Terms.{nothing, freshReader, freshNode, Machine, meaning, seen, nodeSlot, nodesIn, nodesOf, readersOf, readerOf}
+use Rattle.state.proofs.Terms.{fieldOf, modeOf, regionOf, plain, laid, allLaid, cuts, past, formed, chargesOf, bounded, listsOk, nodeOk}
+use Rattle.state.proofs.Terms.{plaqueOk, readingOk, reportOk, readerOk, nameOk, unfit}
+use Rattle.state.specs.Machine.{readerSlot}
 use Rattle.state.proofs.Read.{packed-ok}
-use Rattle.promise.specs.Obeyed.{turned, expected, Obeyed}
+use Rattle.promise.specs.Obeyed.{turned, Does, expected, Obeyed}
 use Rattle.promise.specs.Runs.{Heard, Chain, ended, calls, lines, zeroStore, freshMachine}
 use Rattle.promise.proofs.Parts.{fit}
-
--- one call as promised on a machine that is in order is one step
-pub record Stepped (b : Bench) (c : Call) (m : Machine) (said : Said) (m′ : Machine) : Type 0 where
-  pub says : said ≡ (step b (meaning b m) c) .said
-  pub means : meaning b m′ ≡ (step b (meaning b m) c) .next
-  pub fit : unfit b m′ ≡ 0
 
 turned-is : (s : Said) → turned s ≡ true → (k : ℕ) × (s ≡ refused k)
 unfolding turned
@@ -38,25 +23,31 @@ turned-is (refused k) e = (k, refl)
 turned-is (answered r) e = absurd (false≢true e)
 turned-is queued e = absurd (false≢true e)
 
-pub stepped : (b : Bench) (c : Call) (m : Machine) (said : Said) (m′ : Machine) → unfit b m ≡ 0 → Obeyed b c m said m′ → Stepped b c m said m′
-unfolding expected
-stepped b c m said m′ u o = go (turned said) refl
+-- one call as promised on a machine that is in order is one step; a machine of any layout, by what it means and how it is judged
+pub stepped-by : {M : Type 0} (b : Bench) (means : M → Gateway) (unfit : M → ℕ) (c : Call) (m m′ : M) (said : Said) → unfit m ≡ 0
+    → said ≡ (step b (means m) c) .said → (turned said ≡ true → m′ ≡ m) → (turned said ≡ false → unfit m′ ≡ 0)
+    → (turned said ≡ false → means m′ ≡ (step b (means m) c) .next) → (means m′ ≡ (step b (means m) c) .next) × (unfit m′ ≡ 0)
+stepped-by b means unfit c m m′ said u says refusal sound after = go (turned said) refl
   where
-    is : expected b c m ≡ step b (meaning b m) c
-    is = yes-cond _ (eq-eqb (unfit b m) 0 u)
-
-    says : said ≡ (step b (meaning b m) c) .said
-    says = o .says ∙ ap (λ (x : Outcome). x .said) is
-
-    go : (t : Bool) → turned said ≡ t → Stepped b c m said m′
+    go : (t : Bool) → turned said ≡ t → (means m′ ≡ (step b (means m) c) .next) × (unfit m′ ≡ 0)
     go true e =
         let k = turned-is said e in
-        record {
-          says = says;
-          means = ap (meaning b) (o .refusal e) ∙ sym (refusal-changes-nothing b (meaning b m) c (k .0) (sym says ∙ k .1));
-          fit = ap (unfit b) (o .refusal e) ∙ u;
-        }
-    go false e = record { says = says; means = o .means e ∙ ap (λ (x : Outcome). x .next) is; fit = o .sound e }
+        let n = refusal-changes-nothing b (means m) c (k .0) (sym says ∙ k .1) in
+        (rw (refusal e) (sym n), rw (refusal e) u)
+    go false e = (after e, sound e)
+
+pub record Stepped (b : Bench) (c : Call) (m : Machine) (said : Said) (m′ : Machine) : Type 0 where
+  pub says : said ≡ (step b (meaning b m) c) .said
+  pub means : meaning b m′ ≡ (step b (meaning b m) c) .next
+  pub fit : unfit b m′ ≡ 0
+
+pub stepped : (b : Bench) (c : Call) (m : Machine) (said : Said) (m′ : Machine) → unfit b m ≡ 0 → Obeyed b c m said m′ → Stepped b c m said
+    m′
+unfolding expected
+stepped b c m said m′ u o =
+    let d : Does b (step b (meaning b m) c) m said m′ = rw (eq-eqb (unfit b m) 0 u) at o in
+    let r = stepped-by b (meaning b) (unfit b) c m m′ said u (d .says) (d .refusal) (d .sound) (d .means) in
+    record { says = d .says; means = r .0; fit = r .1 }
 
 -- ---- a chain is a run: the same lines at every node, the same end; and no call of it is refused by 1 or 2
 module _ (b : Bench) where
@@ -67,15 +58,7 @@ module _ (b : Bench) where
       let s = stepped b (h .call) m (h .said) (h .after) u (c .0) in
       let r : lines b i hs ≡ log b i ((step b (meaning b m) (h .call)) .next) (calls hs) =
       chain-lines i (h .after) hs (s .fit) (c .1) ∙ ap (λ (g : Gateway). log b i g (calls hs)) (s .means) in
-      ap (λ (x : Said). record {
-        call = h .call;
-        said = x;
-        node = meaning b (h .after) .nodes i;
-        reader = meaning b (h .after) .reader i;
-        name = meaning b (h .after) .name;
-      } ∷ lines b i hs) (s .says)
-      ∙ ap (λ (g : Gateway). line i (h .call) (record { said = (step b (meaning b m) (h .call)) .said; next = g }) ∷ lines b i hs) (s .means)
-      ∙ ap (λ (ls : List Line). line i (h .call) (step b (meaning b m) (h .call)) ∷ ls) r
+      cc
 
   pub chain-ends : (m : Machine) (hs : List Heard) → unfit b m ≡ 0 → Chain b m hs → meaning b (ended m hs) ≡ run b (meaning b m) (calls hs)
   unfolding ended run Chain
@@ -108,25 +91,15 @@ fresh-lists = packed-ok full zeroStore (replicate 17 freshNode) (replicate 17 no
 
 pub fresh-fit : (memory : List ℕ) → length memory ≡ full .readers * full .region → unfit full (freshMachine memory) ≡ 0
 unfolding every nodeOk readerOk plaqueOk readingOk reportOk nameOk
-fresh-fit memory b = fit full (freshMachine memory) (record {
-  store = zeros-long;
-  memory = b;
-  lists = fresh-lists;
-  nodes = refl;
-  readers = refl;
-  name = refl;
-  wide = refl;
-  eachReader = refl;
-  eachNode = refl;
-  eachHeld = refl;
-})
+fresh-fit memory b = fit full (freshMachine memory) (search (needs, zeros-long, fresh-lists))
 
 in-row : {A : Type 0} (P : A → Type 0) (k i : ℕ) (x d : A) → P x → P d → P (getD (replicate k x) i d)
 in-row P zero i x d p q = q
 in-row P (suc k) zero x d p q = p
 in-row P (suc k) (suc i) x d p q = in-row P k i x d p q
 
-seen-row : {A : Type 0} (P : A → Type 0) (ok : ℕ → Bool) (slot : ℕ → ℕ) (k n : ℕ) (x d : A) → P x → P d → P (seen ok slot d (replicate k x) n)
+seen-row : {A : Type 0} (P : A → Type 0) (ok : ℕ → Bool) (slot : ℕ → ℕ) (k n : ℕ) (x d : A) → P x → P d → P
+    (seen ok slot d (replicate k x) n)
 unfolding seen
 seen-row P ok slot k n x d p q = go (ok n)
   where
@@ -147,14 +120,9 @@ fresh-means b memory =
     ∙ fun-ext (λ n. seen-row (λ y. y ≡ plain) (isNode b) (nodeSlot b) 17 n plain plain refl refl) in
     let rs : (n : ℕ) → readerOf (seen (isReader b) readerSlot freshReader (replicate 16 freshReader) n) (regionOf b memory n)
     ≡ record { field = M.empty; mode = M.off; region = regionOf b memory n } =
-    λ n. seen-row (λ y. readerOf y (regionOf b memory n) ≡ record { field = M.empty; mode = M.off; region = regionOf b memory n }) (isReader b) readerSlot 16 n freshReader freshReader refl refl in
-    ap (λ (f : ℕ → M.Node). record {
-      name = [];
-      nodes = f;
-      reader = λ (n : ℕ). readerOf (seen (isReader b) readerSlot freshReader (replicate 16 freshReader) n) (regionOf b memory n);
-    })
-    ns
-    ∙ ap (λ (f : ℕ → M.Reader). record { name = []; nodes = λ (n : ℕ). plain; reader = f }) (fun-ext rs)
+    λ n. seen-row (λ y. readerOf y (regionOf b memory n) ≡ record { field = M.empty; mode = M.off; region = regionOf b memory n })
+    (isReader b) readerSlot 16 n freshReader freshReader refl refl in
+    cc (ns, fun-ext rs)
 
 -- ---- demand 3 of the code: the lines of any chain from a fresh machine, those of other readers' calls left out, are the struck-out run's
 module _ (i : ℕ) (memory : List ℕ) (bytes : length memory ≡ full .readers * full .region) (hs : List Heard)
@@ -166,7 +134,8 @@ module _ (i : ℕ) (memory : List ℕ) (bytes : length memory ≡ full .readers 
 
   pub struck-lines : Ease full i (fresh (regionOf full memory)) (calls hs)
       → kept (λ l. stays full i (l .call)) (lines full i hs) ≡ log full i (fresh (regionOf full memory)) (struck full i (calls hs))
-  struck-lines z = ap (kept (λ (l : Line). stays full i (l .call))) fresh-lines ∙ strike-out full full-sound i (regionOf full memory) (calls hs) z
+  struck-lines z = ap (kept (λ (l : Line). stays full i (l .call))) fresh-lines ∙ strike-out full full-sound i (regionOf full memory)
+      (calls hs) z
 
 pub struck-chain : (i : ℕ) (memory : List ℕ) → length memory ≡ full .readers * full .region → (hs js : List Heard)
     → Chain full (freshMachine memory) hs → Chain full (freshMachine memory) js → calls js ≡ struck full i (calls hs)

@@ -2,21 +2,12 @@
 -- back unaltered". What demands proves of the meaning's runs holds of every chain of calls from a fresh machine. (Strike-out call by
 -- call is `struck-chain`.)
 -- Assumes nothing.
-use Prim.Native.Nat.{ℕ, zero, suc, _+_, _*_, _%_, _≤_, _<_}
-use mathlib.Core.Path.{_≡_, sym, ap, _∙_, subst}
-use mathlib.Core.List.{List, [], _∷_}
-use native.Mathlib.Omega.{arith}
-use native.Mathlib.Decide.{ℕ-discrete}
-use lib.ListN.{length, take, drop}
-use borrow.Author.Tests.{ne-eqb}
+use Rattle.units.proofs.Common.{sym, _∙_, _≡_, ap, List, [], _∷_, ℕ, _≤_, _+_, _<_, suc, _*_, zero, _%_, ℕ-discrete, arith, length, drop}
+use Rattle.units.proofs.Common.{take, ne-eqb, no-cond}
 use Rattle.units.specs.declared.Form.{Form}
 use Rattle.units.specs.declared.stamp.Stamp.{Stamp}
-use Rattle.units.proofs.Choice.{no-cond}
-use Rattle.meaning.specs.Bench.{Bench, full}
-use Rattle.meaning.specs.Packet.{wordNo}
-use Rattle.meaning.specs.Gateway.{Gateway, fresh}
-use Rattle.meaning.specs.Room.{added, held, charges}
-use Rattle.meaning.specs.Call.{command, Try, Said, refused, queued, Outcome, judged, tried, step, run}
+use Rattle.meaning.proofs.Terms.{Bench, full, wordNo, Gateway, fresh, added, held, charges, command, Try, Said, refused, queued, Outcome}
+use Rattle.meaning.proofs.Terms.{judged, tried, step, run}
 use Rattle.demands.specs.Sound.{Sound, full-sound}
 use Rattle.demands.specs.Demand.{Line, struck, Same, Ease}
 use Rattle.demands.specs.Counts.{Sweeps, tally, past, unmade, Tells}
@@ -26,8 +17,7 @@ use Rattle.demands.proofs.Alone.{strike-out-state}
 use Rattle.demands.proofs.Counted.{counted}
 use Rattle.demands.proofs.Swept.{sweep-queued, sweep-room}
 use Rattle.demands.proofs.History.{history}
-use Rattle.state.specs.Machine.{Machine, meaning, regionOf}
-use Rattle.state.specs.Consistent.{unfit}
+use Rattle.state.proofs.Terms.{Machine, meaning, regionOf, unfit}
 use Rattle.promise.specs.Obeyed.{expected, Obeyed}
 use Rattle.promise.specs.Runs.{Heard, Chain, ended, calls, lines, freshMachine, reached}
 use Rattle.promise.proofs.Parts.{unfit-low}
@@ -51,7 +41,8 @@ module _ (memory : List ℕ) (bytes : length memory ≡ full .readers * full .re
 
   -- "none is refused for room while its held words plus the new answer are at most 134"
   pub code-never-refused : (h : Heard) → Obeyed full (h .call) (ended (freshMachine memory) hs) (h .said) (h .after) → h .said ≡ refused 13
-      → (n : ℕ) × (g : Gateway) × (w : List ℕ) × (tried full (reached memory hs) (h .call) ≡ Try.due n g w) × (134 < held (g .nodes n) + wordNo 1 w)
+      → (n : ℕ) × (g : Gateway) × (w : List ℕ) × (tried full (reached memory hs) (h .call) ≡ Try.due n g w) ×
+      (134 < held (g .nodes n) + wordNo 1 w)
   code-never-refused h o e =
       let u = chain-fit full (freshMachine memory) hs (fresh-fit memory bytes) chain in
       let s = stepped full (h .call) (ended (freshMachine memory) hs) (h .said) (h .after) u o in
@@ -74,14 +65,19 @@ module _ (memory : List ℕ) (bytes : length memory ≡ full .readers * full .re
       held (reached memory hs .nodes n) ≡ added (drop (p .gone) (p .made))
   code-held n = ap added (code-history n .pending)
 
--- "no node holds over 804 words of pending answers", nor do the charges pass the store: after every k calls of a chain, so at each of its machines
+-- "no node holds over 804 words of pending answers", nor do the charges pass the store: after every k calls of a chain, so at each of its
+-- machines
 pub code-never-over : (memory : List ℕ) → length memory ≡ full .readers * full .region
     → (hs : List Heard) → Chain full (freshMachine memory) hs → (k : ℕ)
     → ((n : ℕ) → held (reached memory (take k hs) .nodes n) ≤ 804) × (charges full (reached memory (take k hs)) ≤ 4096)
 code-never-over memory bytes hs chain k =
     let c = chain-front full k (freshMachine memory) hs chain in
     let e = fresh-ends memory bytes (take k hs) c in
-    rw e (never-over (regionOf full memory) (calls (take k hs)), bounds-run full full-sound (regionOf full memory) (calls (take k hs)) .stored)
+    rw e (
+      never-over (regionOf full memory) (calls (take k hs)),
+      bounds-run full full-sound (regionOf full memory)
+          (calls (take k hs)) .stored,
+    )
 
 -- "For 61 and 79 room is judged after emptying, so it is always there": on a consistent machine, as every machine of a chain is by
 -- `chain-fit`, a 61 or a 79 in which nothing is wrong is obeyed; and on no machine at all is one refused for room
@@ -112,5 +108,4 @@ struck-end i memory bytes hs js c d e z =
     let g : Gateway = fresh (regionOf full memory) in
     let there : reached memory js ≡ run full g (struck full i (calls hs)) =
     fresh-ends memory bytes js d ∙ ap (run full g) e in
-    subst (λ (x : Gateway). Same i x (reached memory js)) (sym (fresh-ends memory bytes hs c))
-    (subst (Same i (run full g (calls hs))) (sym there) (strike-out-state full full-sound i (regionOf full memory) (calls hs) z))
+    rw (fresh-ends memory bytes hs c, there) (strike-out-state full full-sound i (regionOf full memory) (calls hs) z)

@@ -1,20 +1,11 @@
 -- An answer that is due: it joins its node's list where it has room, and where not the call is refused by 13. Once for all commands and
 -- the field check, whatever the effect is on: the machine with it is given.
 -- Assumes nothing.
-use Prim.Native.Nat.{ℕ}
-use mathlib.Core.Path.{_≡_, refl, sym, ap, _∙_, subst}
-use mathlib.Core.Bool.{Bool, true, false}
-use mathlib.Core.List.{List}
-use lib.ListN.{length}
-use Rattle.meaning.specs.Bench.{Bench, isNode}
-use Rattle.meaning.specs.Response.{wellFormed}
+use Rattle.units.proofs.Common.{sym, _∙_, _≡_, refl, ap, true, false, List, ℕ, length}
+use Rattle.meaning.proofs.Terms.{Bench, isNode, wellFormed, Gateway, join, charges, fits, refused, queued, Try, roomed, settled}
 use Rattle.meaning.specs.Gateway as M
-use Rattle.meaning.specs.Gateway.{Gateway, join}
-use Rattle.meaning.specs.Room.{charges, fits}
-use Rattle.meaning.specs.Call.{refused, queued, Try, roomed, settled}
 use Rattle.demands.specs.Sound.{Sound}
-use Rattle.state.specs.Machine.{Machine, machine, meaning, nodeSlot, nodesIn}
-use Rattle.state.specs.Consistent.{nodeAt, counts, unfit}
+use Rattle.state.proofs.Terms.{Machine, machine, meaning, nodeSlot, nodesIn, nodeAt, counts, unfit}
 use Rattle.state.specs.declared.State.{State}
 use Rattle.state.proofs.Formed.{formed-says}
 use Rattle.lists.specs.Room.{roomFor}
@@ -36,18 +27,16 @@ fits-nodes b n w g h e = ap (λ (f : ℕ → M.Node). fits b n (join n w (record
 module _ (b : Bench) (m : Machine) (n : ℕ) (h : Gateway) (w : List ℕ) where
   pub due-13 : fits b n (join n w h) ≡ false → (m′ : Machine) → m′ ≡ m → Does b (settled b (meaning b m) (Try.due n h w)) m (refused 13) m′
   unfolding settled roomed
-  due-13 f m′ e =
-      subst (λ (k : Machine). Does b (settled b (meaning b m) (Try.due n h w)) m (refused 13) k) (sym e)
-      (subst (λ (t : Bool). Does b (roomed t (meaning b m) (join n w h)) m (refused 13) m) (sym f) (does-refused b m 13))
+  due-13 f m′ e = rw (e, f) (does-refused b m 13)
 
   pub due-queued : fits b n (join n w h) ≡ true → (m′ : Machine) → Means b m′ (join n w h)
       → Does b (settled b (meaning b m) (Try.due n h w)) m queued m′
   unfolding settled roomed turned
-  due-queued f m′ e =
-      subst (λ (t : Bool). Does b (roomed t (meaning b m) (join n w h)) m queued m′) (sym f) (does-said b m queued (join n w h) m′ refl e)
+  due-queued f m′ e = rw f (does-said b m queued (join n w h) m′ refl e)
 
 -- the machine m₁ has the effect, and the answer was queued at a state with its nodes
-module _ (b : Bench) (ok : Sound b) (n i : ℕ) (is : isNode b n ≡ true) (slot : nodeSlot b n ≡ i) (w : List ℕ) (formed : wellFormed b (nodeAt b i) w ≡ true) where
+module _ (b : Bench) (ok : Sound b) (n i : ℕ) (is : isNode b n ≡ true) (slot : nodeSlot b n ≡ i) (w : List ℕ)
+    (formed : wellFormed b (nodeAt b i) w ≡ true) where
   pub room-due : (m₁ : Machine) (h : Gateway) → unfit b m₁ ≡ 0 → meaning b m₁ .nodes ≡ h .nodes
       → fits b n (join n w h) ≡ roomFor b (counts (m₁ .state .held)) i (length w)
   room-due m₁ h u e =
@@ -57,5 +46,4 @@ module _ (b : Bench) (ok : Sound b) (n i : ℕ) (is : isNode b n ≡ true) (slot
   pub joins : (m₁ : Machine) (h : Gateway) → Means b m₁ h → (store′ : List ℕ) (s′ : State) → Added b (m₁ .store) store′ (m₁ .state) s′ i w
       → Means b (machine s′ store′ (m₁ .memory)) (join n w h)
   joins m₁ h e store′ s′ a =
-      subst (λ (g : Gateway). Means b (machine s′ store′ (m₁ .memory)) (join n w g)) (e .means)
-      (added-changed b m₁ n w is (parts b m₁ (e .fit)) store′ s′ (subst (λ (j : ℕ). Added b (m₁ .store) store′ (m₁ .state) s′ j w) (sym slot) a))
+      rw (← (e .means)) (added-changed b m₁ n w is (parts b m₁ (e .fit)) store′ s′ (rw slot a))

@@ -1,53 +1,42 @@
 -- The examples of specs/Examples hold; the checker computes them.
 -- Assumes nothing.
-use Prim.Native.Nat.{ℕ, _+_}
-use mathlib.Core.Path.{_≡_, refl, sym, ap, _∙_, subst}
-use mathlib.Core.Bool.{Bool, true, _&&_, cond}
-use mathlib.Core.List.{List, [], _∷_, _++_, map}
-use lib.Dec.{lit<, leb}
-use lib.ListN.{length, replicate}
-use borrow.Author.Tests.{leb-true}
+use Rattle.units.proofs.Common.{needs, sym, _∙_, _≡_, refl, ap, subst, true, Bool, cond, _&&_, List, [], _∷_, _++_, map, ℕ, _+_, leb, lit<}
+use Rattle.units.proofs.Common.{replicate, leb-true, yes-cond, and-true}
 use Rattle.units.specs.Count as Count
 use Rattle.units.specs.Stamp as Stamps
 use Rattle.units.specs.declared.Form.{Form}
 use Rattle.units.specs.declared.Form.the-variants.{Framed}
-use Rattle.units.proofs.Choice.{yes-cond, and-true}
-use Rattle.meaning.specs.Bench.{Bench, full, hub, isNode}
+use Rattle.meaning.proofs.Terms.{Bench, full, hub, isNode, wordNo, Gateway, clearing, swept, sweep, setReader, join, onward, fresh, held}
+use Rattle.meaning.proofs.Terms.{shareOf, charges, Call, arrive, collect, Said, queued, answered, done, handed, Try, tried, step}
 use Rattle.meaning.specs.Refusal as Refusal
 use Rattle.meaning.specs.Table as Table
 use Rattle.meaning.specs.Command as Command
 use Rattle.meaning.specs.Response as Response
 use Rattle.meaning.specs.Packet as Packet
-use Rattle.meaning.specs.Packet.{wordNo}
-use Rattle.meaning.specs.Cases.{search, reads}
+use Rattle.meaning.specs.Cases as Packets
 use Rattle.meaning.specs.CasesOfCalls as Cases
 use Rattle.meaning.specs.CasesOfCalls.{cmd, idA, clears}
 use Rattle.meaning.specs.Gateway as M
-use Rattle.meaning.specs.Gateway.{Gateway, clearing, swept, sweep, setReader, join, onward, fresh}
 use Rattle.meaning.specs.Room as Room
-use Rattle.meaning.specs.Room.{held, shareOf, charges}
 use Rattle.meaning.specs.Call as C
-use Rattle.meaning.specs.Call.{Call, arrive, collect, Said, queued, answered, done, handed, Try, tried, step}
 use Rattle.demands.specs.Sound.{full-sound}
 use Rattle.demands.specs.Demand as D
 use Rattle.demands.specs.Demand.{Line, log, kept, stays, struck, ours, Eased, Ease, Same, ofOurs}
 use Rattle.demands.proofs.Alone.{strike-out}
 use Rattle.state.specs.State as States
-use Rattle.state.specs.State.{nothing, freshReader, emptiedNode}
+use Rattle.state.proofs.Terms.{nothing, freshReader, emptiedNode, Machine, machine, meaning, nodeSlot, nodesIn, regionOf, unfit}
 use Rattle.state.specs.Layout as L
 use Rattle.state.specs.Machine as S
-use Rattle.state.specs.Machine.{Machine, machine, meaning, nodeSlot, nodesIn, regionOf}
 use Rattle.state.specs.Consistent as Ok
-use Rattle.state.specs.Consistent.{unfit}
 use Rattle.state.specs.declared.State.{State}
 use Rattle.store.specs.Changes.{withLists, Sound, Listed, takenAt}
 use Rattle.store.proofs.Promised as Lists
 use Rattle.promise.specs.Obeyed as O
 use Rattle.promise.specs.Obeyed.{turned, expected, Obeyed}
 use Rattle.promise.specs.Runs.{Chain, calls, lines, zeroStore, reached}
-use Rattle.promise.specs.Examples.{zeroMemory, begun, visited, notFound, fourBytes, allCleared, holding, relieved, silent}
-use Rattle.promise.specs.Examples.{withPlaque, withNotFound, withBoth, withOther, withFour, withNone, visit, visitAlone}
-use Rattle.promise.specs.Examples.{crowding, goingOn, goingOnSaid, crowdStart, crowd, Crowded}
+use Rattle.promise.specs.Examples.{zeroMemory, begun, visited, notFound, fourBytes, allCleared, holding, relieved, silent, withPlaque}
+use Rattle.promise.specs.Examples.{withNotFound, withBoth, withOther, withFour, withNone, visit, visitAlone, crowding, goingOn}
+use Rattle.promise.specs.Examples.{goingOnSaid, crowdStart, crowd, Crowded}
 use Rattle.promise.proofs.Parts.{parts, Means}
 use Rattle.promise.proofs.Promises.{saying, obeying}
 use Rattle.promise.proofs.Steps.{same-reader}
@@ -56,6 +45,7 @@ use Rattle.promise.proofs.Dues.{Added}
 use Rattle.promise.proofs.Sweeps.{cleared}
 use Rattle.promise.proofs.Tables.{node-hub}
 use Rattle.promise.proofs.Plaques.{arrived-0, left-14}
+use Rattle.promise.proofs.Accepted.{_then_}
 use Rattle.promise.proofs.Oldest.{collect-obeyed, acked-0}
 use Rattle.promise.proofs.Chains.{fresh-fit, struck-chain}
 use Rattle.promise.proofs.Demands.{struck-end}
@@ -95,7 +85,7 @@ emptying {m} {m′} {w} {c} q =
     let l = Lists.clears full (m .store) (m .state) o 17 (sym (p .eachNode)) in
     let z = Lists.wiped full (m .store) (m .state) o 17 (sym (p .eachNode)) ∙ ap (λ (k : ℕ). replicate k 0) (p .store) in
     let clean : Means full (machine (bare m) zeroStore (m .memory)) (sweep clearing (meaning full m)) =
-    cleared full m (q .fits) zeroStore (bare m) (subst (λ (t : List ℕ). Listed full (m .store) t (m .state) (bare m) (map (swept clearing) (nodesIn (m .store) (m .state .nodes)))) z l) in
+    cleared full m (q .fits) zeroStore (bare m) (rw z at l) in
     let m₁ : Machine = machine (bare m) zeroStore (m .memory) in
     subst (λ (l : List ℕ). Obeyed full c m queued (machine (m′ .state) (m′ .store) l)) (sym (q .kept))
     (obeying full m c (q .fits) queued _ _ refl (q .steps ∙ ap (λ (g : Gateway). saying queued (join hub w g)) (sym (clean .means)))
@@ -134,9 +124,9 @@ ease-by b i g (c ∷ cs) e =
 
 -- ---- what the checker computes
 record Computed : Type 0 where
-  searched : Queues withPlaque 3 notFound (cmd (search 3)) withNotFound
-  read : Queues withNotFound 2 fourBytes (cmd (reads 2 0 4)) withBoth
-  readAlone : Queues withPlaque 2 fourBytes (cmd (reads 2 0 4)) withFour
+  searched : Queues withPlaque 3 notFound (cmd (Packets.search 3)) withNotFound
+  read : Queues withNotFound 2 fourBytes (cmd (Packets.reads 2 0 4)) withBoth
+  readAlone : Queues withPlaque 2 fourBytes (cmd (Packets.reads 2 0 4)) withFour
   both : unfit full withBoth ≡ 0
   four : unfit full withFour ≡ 0
   acked : Taken withBoth withOther
@@ -168,27 +158,9 @@ unfolding Count.every Stamps.lastDay Stamps.isStamp Refusal.refusal Packet.count
     States.emptiedNode O.expected M.fresh M.taken C.arrived C.run D.kept D.spared D.stays D.struck D.line D.log atEaseT atEase visit
     visitAlone crowding goingOn zeroStore
 computed = record {
-  searched = record {
-    fits = refl;
-    node = refl;
-    steps = refl;
-    added = record { lists = refl; nodes = refl; rest = refl; long = refl };
-    kept = refl;
-  };
-  read = record {
-    fits = refl;
-    node = refl;
-    steps = refl;
-    added = record { lists = refl; nodes = refl; rest = refl; long = refl };
-    kept = refl;
-  };
-  readAlone = record {
-    fits = refl;
-    node = refl;
-    steps = refl;
-    added = record { lists = refl; nodes = refl; rest = refl; long = refl };
-    kept = refl;
-  };
+  searched = search needs;
+  read = search needs;
+  readAlone = search needs;
   both = refl;
   four = refl;
   acked = record { lists = refl; nodes = refl; rest = refl; long = refl };
@@ -205,7 +177,7 @@ computed = record {
   says = refl;
 }
 
--- ---- the two chains
+-- ---- the two chains, call after call
 arrives : Obeyed full (arrive 2 idA (0x11 ∷ 0x22 ∷ 0x33 ∷ 0x44 ∷ [])) begun (answered done) withPlaque
 unfolding Cases.idA
 arrives =
@@ -214,47 +186,25 @@ arrives =
 
 pub visit-chain : Chain full begun visit
 unfolding Chain visit onward
-visit-chain = (
-  arrives,
-  (
-    queues (computed .searched),
-    (
-      queues (computed .read),
-      (
-        left-14 full withBoth 3 (computed .both) refl freshReader refl refl,
-        (
-          collects withBoth Framed 2 134 _ (computed .collected),
-          (
-            acked-0 full withBoth (computed .both) 2 1 1 refl refl (holding 8 .0) refl (lit< tt) refl _ _ (computed .acked),
-            (
-              emptying (computed .cleared),
-              tt,
-            ),
-          ),
-        ),
-      ),
-    ),
-  ),
-)
+visit-chain =
+    arrives
+    then queues (computed .searched)
+    then queues (computed .read)
+    then left-14 full withBoth 3 (computed .both) refl freshReader refl refl
+    then collects withBoth Framed 2 134 _ (computed .collected)
+    then acked-0 full withBoth (computed .both) 2 1 1 refl refl (holding 8 .0) refl (lit< tt) refl _ _ (computed .acked)
+    then emptying (computed .cleared)
+    then tt
 
 pub visit-alone : Chain full begun visitAlone
 unfolding Chain visitAlone onward
-visit-alone = (
-  arrives,
-  (
-    queues (computed .readAlone),
-    (
-      collects withFour Framed 2 134 _ (computed .collectedAlone),
-      (
-        acked-0 full withFour (computed .four) 2 1 1 refl refl (holding 8 .0) refl (lit< tt) refl _ _ (computed .ackedAlone),
-        (
-          emptying (computed .clearedAlone),
-          tt,
-        ),
-      ),
-    ),
-  ),
-)
+visit-alone =
+    arrives
+    then queues (computed .readAlone)
+    then collects withFour Framed 2 134 _ (computed .collectedAlone)
+    then acked-0 full withFour (computed .four) 2 1 1 refl refl (holding 8 .0) refl (lit< tt) refl _ _ (computed .ackedAlone)
+    then emptying (computed .clearedAlone)
+    then tt
 
 -- ---- what the theorems say of them
 pub visit-ease : Ease full 2 (fresh (regionOf full zeroMemory)) (calls visit)

@@ -1,15 +1,7 @@
 -- "The lowest number that applies is given", of every call of the code, on any machine.
 -- Assumes nothing.
-use Prim.Native.Nat.{ℕ, _≤_}
-use mathlib.Core.Path.{_≡_, refl, sym, ap, _∙_}
-use mathlib.Core.Bool.{Bool, true, false}
-use native.Mathlib.Omega.{arith}
-use lib.Dec.{eqb}
-use borrow.Author.Tests.{eqb-true, eqb-false}
-use Rattle.units.proofs.Choice.{yes-cond, no-cond}
-use Rattle.meaning.specs.Refusal.{refusal}
-use Rattle.meaning.specs.Bench.{Bench}
-use Rattle.meaning.specs.Call.{Call, Said, Outcome, refused, step}
+use Rattle.units.proofs.Common.{sym, _∙_, _≡_, refl, ap, true, false, Bool, ℕ, _≤_, arith, eqb, eqb-true, eqb-false, yes-cond, no-cond}
+use Rattle.meaning.proofs.Terms.{refusal, Bench, Call, Said, Outcome, refused, step}
 use Rattle.meaning.proofs.Chain.{pass, stop}
 use Rattle.demands.specs.Sound.{Sound}
 use Rattle.demands.specs.Wrong.{wrong}
@@ -17,8 +9,7 @@ use Rattle.demands.specs.Order.{doubts, numbers, rise, Lowest}
 use Rattle.demands.proofs.Numbers.{refused-numbers}
 use Rattle.demands.proofs.Late.{number, number-step}
 use Rattle.demands.proofs.Whole.{lowest-by, rise-down, wrong-rise}
-use Rattle.state.specs.Machine.{Machine, meaning}
-use Rattle.state.specs.Consistent.{lent, unfit}
+use Rattle.state.proofs.Terms.{Machine, meaning, lent, unfit}
 use Rattle.promise.specs.Obeyed.{expected, Obeyed}
 use Rattle.promise.specs.Faults.{faults}
 
@@ -51,6 +42,7 @@ module _ (b : Bench) (ok : Sound b) (c : Call) (m : Machine) where
   unfolding rise numbers doubts faults lent
   faults-rise = rise-down 2 3 (numbers (doubts (wrong b (meaning b m) c))) (omega arith) (wrong-rise b (meaning b m) c)
 
-  -- "each given exactly when that paper says": a refusal's number applies, and no lower one of the sixteen; where one applies, there is a refusal
+  -- "each given exactly when that paper says": a refusal's number applies, and no lower one of the sixteen; where one applies, there is a
+  -- refusal
   pub code-lowest : (said : Said) (m′ : Machine) → Obeyed b c m said m′ → Lowest said (faults b m c)
   code-lowest said m′ o = rw (o .says) (lowest-by _ _ faults-rise (first-fault .some) (first-fault .first))

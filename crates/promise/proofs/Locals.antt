@@ -1,16 +1,10 @@
 -- What its own reader makes of a command and of a field check, case by case: what a `return` of theirs has to match.
 -- Assumes nothing.
-use Prim.Native.Nat.{ℕ, _+_}
-use mathlib.Core.Path.{_≡_, refl, ap, _∙_}
-use mathlib.Core.Bool.{true, false}
-use mathlib.Core.List.{List, []}
-use lib.Dec.{leb, eqb}
-use lib.ListN.{getD, replicate}
-use lib.Seq.{paste, slice}
+use Rattle.units.proofs.Common.{_∙_, _≡_, refl, ap, true, false, List, [], ℕ, _+_, leb, getD, replicate, paste, slice, yes-cond, no-cond}
 use Rattle.units.specs.declared.stamp.Stamp.{Stamp}
-use Rattle.units.proofs.Choice.{yes-cond, no-cond}
-use Rattle.meaning.specs.Gateway.{Node, Reader, Field, empty, plaque, Report, never, last, Mode, off, on, setMode, setRegion}
-use Rattle.meaning.specs.Call.{quiet, Local, repeats, ranged, started, answer, tagNotFound, tagged, obeyed, looked}
+use Rattle.meaning.proofs.Terms.{Node, Reader, Field, empty, plaque, last, off, on, setMode, quiet, Local, repeats, ranged, answer}
+use Rattle.meaning.proofs.Terms.{tagNotFound, tagged, obeyed, looked}
+use Rattle.meaning.specs.Gateway.{Report, setRegion}
 use Rattle.meaning.specs.declared.table.OnPlaque.{OnPlaque}
 use Rattle.meaning.specs.declared.table.OnPlaque.the-variants.{Fill, Read, Write, ReadId, Search}
 use Rattle.meaning.specs.declared.table.Kind.the-variants as K
@@ -56,7 +50,8 @@ module _ (n : ℕ) (x : Node) (t : Stamp) where
         unfolding tagged ranged
         fill-due = tagged-by Fill (plaque id len) e ∙ yes-cond _ d
 
-        pub read-due : obeyed n x t (K.Plaque Read) m bs r ≡ Local.due r (answer n x t 0x05 (slice (m .start) (m .start + m .size) (r .region)))
+        pub read-due : obeyed n x t (K.Plaque Read) m bs r ≡ Local.due r
+            (answer n x t 0x05 (slice (m .start) (m .start + m .size) (r .region)))
         unfolding tagged ranged
         read-due = tagged-by Read (plaque id len) e ∙ yes-cond _ d
 
@@ -73,20 +68,6 @@ module _ (n : ℕ) (x : Node) (t : Stamp) where
       unfolding tagged
       search-due = tagged-by Search (plaque id len) e
 
-    -- ---- 0D, 54
-    pub stop-due : eqb (m .size) 0 ≡ true → obeyed n x t K.Continuous m bs r ≡ Local.due (setMode off r) (answer n x t 0x0D [])
-    unfolding obeyed started
-    stop-due e = ap (λ (k : Mode). Local.due (setMode k r) (answer n x t 0x0D [])) (yes-cond _ e)
-
-    pub start-due : eqb (m .size) 0 ≡ false
-        → obeyed n x t K.Continuous m bs r ≡ Local.due (setMode (on (m .start) (m .size) (m .word4) never) r) (answer n x t 0x0D [])
-    unfolding obeyed started
-    start-due e = ap (λ (k : Mode). Local.due (setMode k r) (answer n x t 0x0D [])) (no-cond _ e)
-
-    pub reset-due : obeyed n x t K.ResetReader m bs r ≡ Local.due (setMode off r) (answer n x t 0x54 [])
-    unfolding obeyed
-    reset-due = refl
-
   -- ---- field check
   module _ (clock : ℕ) (r : Reader) where
     pub quiet-none : r .field ≡ empty → looked n x t clock r (r .field) (r .mode) ≡ Local.give quiet r
@@ -101,7 +82,8 @@ module _ (n : ℕ) (x : Node) (t : Stamp) where
         each empty = refl
         each (plaque id len) = refl
 
-    module _ (id : List ℕ) (len : ℕ) (e : r .field ≡ plaque id len) (start size delay : ℕ) (rep : Report) (o : r .mode ≡ on start size delay rep) where
+    module _ (id : List ℕ) (len : ℕ) (e : r .field ≡ plaque id len) (start size delay : ℕ) (rep : Report)
+        (o : r .mode ≡ on start size delay rep) where
       looked-by : looked n x t clock r (r .field) (r .mode) ≡ looked n x t clock r (plaque id len) (on start size delay rep)
       looked-by = ap (λ (f : Field). looked n x t clock r f (r .mode)) e ∙ ap (looked n x t clock r (plaque id len)) o
 

@@ -1,27 +1,17 @@
 -- The lists changed, and nothing else: one node's, as an answer joins or leaves, or all of them; and the name changed.
 -- Assumes nothing.
-use Prim.Native.Nat.{ℕ, _+_}
-use mathlib.Core.Path.{_≡_, refl, sym, ap, _∙_, subst}
-use mathlib.Core.Bool.{Bool, true, false, _&&_, cond}
-use mathlib.Core.List.{List, [], _∷_, map}
-use native.Mathlib.Omega.{arith}
-use lib.Dec.{leb, eqb}
-use lib.ListN.{length, getD, take, set, length-map, length-set}
-use borrow.Author.Tests.{le-leb}
-use Rattle.units.specs.Count.{every}
+use Rattle.units.proofs.Common.{needs, sym, _∙_, _≡_, refl, ap, subst, true, false, Bool, cond, _&&_, List, [], _∷_, map, ℕ, _+_, arith}
+use Rattle.units.proofs.Common.{eqb, leb, length, take, set, length-set, length-map, le-leb, every, and-true}
 use Rattle.units.specs.declared.Words.{Words}
-use Rattle.units.proofs.Choice.{and-true}
-use Rattle.meaning.specs.Bench.{Bench, isNode}
+use Rattle.meaning.proofs.Terms.{Bench, isNode, Gateway, setNode, onward, Sweep, clearing, resetting, none, emptied, swept, sweep, held}
 use Rattle.meaning.specs.Gateway as M
-use Rattle.meaning.specs.Gateway.{Gateway, put, setNode, setName, onward, Sweep, clearing, resetting, none, emptied, swept, sweep}
-use Rattle.state.specs.Machine.{Machine, machine, meaning, seen, nodeSlot, nodesIn, nodesOf, readersOf, plain}
-use Rattle.state.specs.Consistent.{nodeOk, nameOk, unfit}
+use Rattle.meaning.specs.Gateway.{setName}
+use Rattle.state.proofs.Terms.{Machine, machine, meaning, seen, nodeSlot, nodesIn, nodesOf, plain, nodeOk, nameOk, unfit}
 use Rattle.state.specs.declared.node.Node.{Node}
 use Rattle.state.specs.declared.Name.{Name}
 use Rattle.state.specs.declared.State.{State}
-use Rattle.state.proofs.Lists.{both, every-get, every-set}
-use Rattle.state.proofs.Read.{length-nodes, Packed, packed-of}
-use Rattle.meaning.specs.Room.{held}
+use Rattle.state.proofs.Lists.{both, every-set}
+use Rattle.state.proofs.Read.{length-nodes, packed-of}
 use Rattle.store.specs.Changes.{Listed}
 use Rattle.promise.proofs.Parts.{Parts, parts, fit, Means}
 use Rattle.promise.proofs.Tables.{seen-set, seen-map, node-inj, node-inside}
@@ -30,7 +20,7 @@ use Rattle.promise.proofs.Tables.{seen-set, seen-map, node-inj, node-in
 unfoldable pub numbered : M.Node → Bool
 numbered x = leb 1 (x .handover)
 
-handovers : (w : List ℕ) (ns : List Node) → every nodeOk ns ≡ every numbered (nodesIn w ns)
+pub handovers : (w : List ℕ) (ns : List Node) → every nodeOk ns ≡ every numbered (nodesIn w ns)
 unfolding every nodeOk numbered nodesIn
 handovers w [] = refl
 handovers w (n ∷ ns) = ap (λ t. nodeOk n && t) (handovers _ ns)
@@ -44,19 +34,16 @@ onward-ok h = go (eqb h 65535)
     go true = refl
     go false = le-leb 1 (h + 1) (omega arith)
 
+emptied-numbered : (x : M.Node) (as' : List (List ℕ)) → numbered x ≡ true → leb 1 ((emptied x as') .handover) ≡ true
+unfolding emptied numbered
+emptied-numbered x [] h = h
+emptied-numbered x (a ∷ r) h = onward-ok (x .handover)
+
 swept-numbered : (z : Sweep) (x : M.Node) → numbered x ≡ true → numbered (swept z x) ≡ true
-unfolding swept emptied numbered
+unfolding swept numbered
 swept-numbered none x h = h
-swept-numbered clearing x h = go (x .pending)
-  where
-    go : (as' : List (List ℕ)) → leb 1 ((emptied x as') .handover) ≡ true
-    go [] = h
-    go (a ∷ r) = onward-ok (x .handover)
-swept-numbered resetting x h = go (x .pending)
-  where
-    go : (as' : List (List ℕ)) → leb 1 ((emptied x as') .handover) ≡ true
-    go [] = h
-    go (a ∷ r) = onward-ok (x .handover)
+swept-numbered clearing x h = emptied-numbered x (x .pending) h
+swept-numbered resetting x h = emptied-numbered x (x .pending) h
 
 every-swept : (z : Sweep) (ms : List M.Node) → every numbered ms ≡ true → every numbered (map (swept z) ms) ≡ true
 unfolding every
@@ -82,33 +69,18 @@ module _ (b : Bench) (m : Machine) (p : Parts b m) where
     listed-means : meaning b (machine s′ store′ (m .memory)) ≡ among (seen (isNode b) (nodeSlot b) plain ms)
     unfolding meaning nodesOf
     listed-means =
-        ap (λ (t : State). record {
-          name = take (t .name .length .0) (t .name .bytes);
-          nodes = nodesOf b store′ (s′ .nodes);
-          reader = readersOf b (m .memory) (t .readers);
-        })
-        (a .rest)
-        ∙ ap (λ (l : List M.Node). among (seen (isNode b) (nodeSlot b) plain l)) (a .nodes)
+        rw (← (a .nodes), a .rest)
 
     listed-fit : length ms ≡ b .readers + 1 → every numbered ms ≡ true → Parts b (machine s′ store′ (m .memory))
     listed-fit l h =
         let q = packed-of b store′ (s′ .nodes) (s′ .held) (a .long ∙ p .store) (a .lists) in
         let n : length (nodesIn store′ (s′ .nodes)) ≡ b .readers + 1 = ap length (a .nodes) ∙ l in
         let k : length (s′ .nodes) ≡ b .readers + 1 = rw length-nodes at n in
-        let c : length (s′ .held) ≡ b .readers + 1 = sym (length-map (s′ .held) (λ (w : Words). w .0)) ∙ ap length (q .helds) ∙ length-map (nodesIn store′ (s′ .nodes)) held ∙ n in
+        let c : length (s′ .held) ≡ b .readers + 1 = sym (length-map (s′ .held) (λ (w : Words). w .0)) ∙ ap length (q .helds) ∙ length-map
+        (nodesIn store′ (s′ .nodes)) held ∙ n in
         let o : every nodeOk (s′ .nodes) ≡ true = handovers store′ (s′ .nodes) ∙ ap (every numbered) (a .nodes) ∙ h in
-        subst (λ (t : State). Parts b (machine t store′ (m .memory))) (sym (a .rest)) (record {
-          store = a .long ∙ p .store;
-          memory = p .memory;
-          lists = a .lists;
-          nodes = o;
-          readers = p .readers;
-          name = p .name;
-          wide = p .wide;
-          eachReader = p .eachReader;
-          eachNode = k;
-          eachHeld = c;
-        })
+        let long = a .long ∙ p .store in
+        subst (λ (t : State). Parts b (machine t store′ (m .memory))) (sym (a .rest)) (search needs)
 
   -- node n is another
   module _ (n : ℕ) (is : isNode b n ≡ true) (x : M.Node) (h : numbered x ≡ true) (store′ : List ℕ) (s′ : State)
@@ -116,9 +88,11 @@ module _ (b : Bench) (m : Machine) (p : Parts b m) where
     pub node-changed : Means b (machine s′ store′ (m .memory)) (setNode n x (meaning b m))
     unfolding meaning nodesOf
     node-changed = record {
-      fit = fit b _ (listed-fit store′ s′ _ a (length-set now (nodeSlot b n) x ∙ many) (every-set numbered now (nodeSlot b n) x all-numbered h));
+      fit = fit b _ (listed-fit store′ s′ _ a (length-set now (nodeSlot b n) x ∙ many)
+          (every-set numbered now (nodeSlot b n) x all-numbered h));
       means = listed-means store′ s′ _ a
-          ∙ ap among (seen-set (isNode b) (nodeSlot b) plain now n x is (node-inside b n (length now) is many) (λ k q r. node-inj b k n is q r));
+          ∙ ap among (seen-set (isNode b) (nodeSlot b) plain now n x is (node-inside b n (length now) is many)
+          (λ k q r. node-inj b k n is q r));
     }
 
   -- every list is emptied
@@ -135,28 +109,8 @@ module _ (b : Bench) (m : Machine) (p : Parts b m) where
 abbrev pub withName : State → Name → State
 withName s t = record { name = t; readers = s .readers; nodes = s .nodes; held = s .held }
 
-module _ (b : Bench) (m : Machine) (t : Name) where
-  pub name-means : meaning b (machine (withName (m .state) t) (m .store) (m .memory)) ≡ setName (take (t .length .0) (t .bytes)) (meaning b m)
-  unfolding meaning
-  name-means = refl
-
-  pub name-fit : Parts b m → nameOk t ≡ true → length (t .bytes) ≡ 64 → Parts b (machine (withName (m .state) t) (m .store) (m .memory))
-  name-fit p o l = record {
-    store = p .store;
-    memory = p .memory;
-    lists = p .lists;
-    nodes = p .nodes;
-    readers = p .readers;
-    name = o;
-    wide = l;
-    eachReader = p .eachReader;
-    eachNode = p .eachNode;
-    eachHeld = p .eachHeld;
-  }
-
-  pub name-changed : unfit b m ≡ 0 → nameOk t ≡ true → length (t .bytes) ≡ 64 → (s : List ℕ) → take (t .length .0) (t .bytes) ≡ s
-      → Means b (machine (withName (m .state) t) (m .store) (m .memory)) (setName s (meaning b m))
-  name-changed u o l s e = record {
-    fit = fit b _ (name-fit (parts b m u) o l);
-    means = name-means ∙ ap (λ (k : List ℕ). setName k (meaning b m)) e;
-  }
+pub name-changed : (b : Bench) (m : Machine) (t : Name) → unfit b m ≡ 0 → nameOk t ≡ true → length (t .bytes) ≡ 64
+    → (s : List ℕ) → take (t .length .0) (t .bytes) ≡ s
+    → Means b (machine (withName (m .state) t) (m .store) (m .memory)) (setName s (meaning b m))
+unfolding meaning
+name-changed b m t u o l s e = let p = parts b m u in record { fit = fit b _ (search needs); means = rw e }

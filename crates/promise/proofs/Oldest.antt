@@ -1,25 +1,14 @@
 -- Acknowledge and collect, of the machine: a law for each way that the code returns.
 -- Assumes nothing.
-use Prim.Native.Nat.{ℕ, suc, _+_, _≤_, _<_}
-use mathlib.Core.Path.{_≡_, refl, sym, ap, _∙_, subst}
-use mathlib.Core.Bool.{Bool, true, false, cond, true≢false}
-use mathlib.Core.List.{List, [], _∷_, _++_}
-use native.Mathlib.Omega.{arith}
-use native.Mathlib.Nat.{zero-add}
-use lib.Dec.{leb, eqb}
-use lib.ListN.{length, getD, drop, set}
-use borrow.Author.Tests.{eqb-true, eq-eqb, ne-eqb, le-leb, lt-leb}
-use Rattle.units.specs.Word.{word}
+use Rattle.units.proofs.Common.{sym, _∙_, _≡_, refl, ap, true, false, Bool, cond, not, true≢false, List, [], _∷_, _++_, ℕ, _≤_, _+_, _<_}
+use Rattle.units.proofs.Common.{suc, zero-add, arith, eqb, length, drop, getD, set, eq-eqb, ne-eqb, le-leb, eqb-true, lt-leb, word}
+use Rattle.units.proofs.Common.{yes-cond, no-cond}
 use Rattle.units.specs.declared.Form.{Form}
-use Rattle.units.proofs.Choice.{yes-cond, no-cond}
-use Rattle.meaning.specs.Bench.{Bench, isNode}
-use Rattle.meaning.specs.Response.{bears, shown}
+use Rattle.meaning.proofs.Terms.{Bench, isNode, bears, shown, setNode, taken, collect, acknowledge, Said, refused, answered, done, handed}
+use Rattle.meaning.proofs.Terms.{Outcome, step, asked, judged}
 use Rattle.meaning.specs.Gateway as M
-use Rattle.meaning.specs.Gateway.{setNode, taken}
-use Rattle.meaning.specs.Call.{collect, acknowledge, Said, refused, answered, done, handed, Outcome, step}
-use Rattle.state.specs.State.{freshNode}
-use Rattle.state.specs.Machine.{Machine, machine, meaning, nodeSlot, nodesIn, plain}
-use Rattle.state.specs.Consistent.{unfit}
+use Rattle.meaning.proofs.Chain.{this}
+use Rattle.state.proofs.Terms.{freshNode, Machine, machine, meaning, nodeSlot, nodesIn, plain, unfit}
 use Rattle.state.specs.declared.node.Node.{Node}
 use Rattle.state.specs.declared.State.{State}
 use Rattle.state.proofs.Read.{nodeFor, node-for}
@@ -32,7 +21,8 @@ use Rattle.promise.proofs.Parts.{parts, Means}
 use Rattle.promise.proofs.Tables.{node-inside, node-at}
 use Rattle.promise.proofs.Nodes.{numbered, onward-ok, node-changed}
 use Rattle.promise.proofs.Promises.{saying, turning, obeying}
-use Rattle.promise.proofs.Steps.{acknowledge-7, acknowledge-14, acknowledge-15, acknowledge-0, collect-7, collect-14, collect-16, collect-0, collect-keeps}
+use Rattle.promise.proofs.Steps.{refused-by, acknowledge-14, acknowledge-15, acknowledge-0, collect-7, collect-14, collect-16}
+use Rattle.promise.proofs.Steps.{collect-0, collect-keeps}
 
 -- ---- node n, which stands at index i as x
 module _ (b : Bench) (m : Machine) (fits : unfit b m ≡ 0) (n i : ℕ) (is : isNode b n ≡ true) (slot : nodeSlot b n ≡ i)
@@ -64,7 +54,7 @@ module _ (b : Bench) (m : Machine) (fits : unfit b m ≡ 0) (n i : ℕ) (is : is
       go (a ∷ r) h = absurd (omega arith)
 
   pub index-inside : i < length (m .state .nodes)
-  index-inside = subst (λ (j : ℕ). j < length (m .state .nodes)) slot (node-inside b n (length (m .state .nodes)) is (parts b m fits .eachNode))
+  index-inside = rw (← slot) (node-inside b n (length (m .state .nodes)) is (parts b m fits .eachNode))
 
   pub lists-sound : Sound b (m .store) (m .state)
   lists-sound = let p = parts b m fits in record { size = p .store; lists = p .lists }
@@ -73,7 +63,7 @@ module _ (b : Bench) (m : Machine) (fits : unfit b m ≡ 0) (n i : ℕ) (is : is
     -- its oldest answer, and the store without it
     pub takes : Take b (m .store) (m .state) lists-sound i index-inside (b .readers + 1)
     takes =
-        taking b (m .store) (m .state) lists-sound i index-inside (subst (λ (y : Node). 0 < y .answers) (sym at) some) _ (sym (parts b m fits .eachNode))
+        taking b (m .store) (m .state) lists-sound i index-inside (rw at some) _ (sym (parts b m fits .eachNode))
 
     abbrev pub oldest : List ℕ
     oldest = takes .oldest
@@ -87,13 +77,13 @@ module _ (b : Bench) (m : Machine) (fits : unfit b m ≡ 0) (n i : ℕ) (is : is
     unfolding taken numbered
     taken-changed store′ s′ a =
         node-changed b m (parts b m fits) n is (taken (meaning b m .nodes n)) (onward-ok (meaning b m .nodes n .handover)) store′ s′
-        (subst (λ (j : ℕ). Listed b (m .store) store′ (m .state) s′ (set ms j (taken (meaning b m .nodes n)))) (sym slot)
-        (subst (λ (y : M.Node). Listed b (m .store) store′ (m .state) s′ (set ms i (taken y))) (sym node-is) a))
+        (rw (slot, node-is) a)
 
 -- ---- acknowledge
 module _ (b : Bench) (m : Machine) (fits : unfit b m ≡ 0) (n h : ℕ) where
   pub acked-7 : isNode b n ≡ false → Obeyed b (acknowledge n h) m (refused 7) m
-  acked-7 r = turning b m (acknowledge n h) fits 7 (acknowledge-7 b (meaning b m) n h r)
+  unfolding judged asked
+  acked-7 r = refused-by b m (acknowledge n h) fits 7 (this 7 (ap not r)) (λ z. omega arith)
 
   module _ (i : ℕ) (is : isNode b n ≡ true) (slot : nodeSlot b n ≡ i) (x : Node) (at : getD (m .state .nodes) i freshNode ≡ x) where
     pub acked-14 : x .answers ≡ 0 → Obeyed b (acknowledge n h) m (refused 14) m
@@ -103,7 +93,7 @@ module _ (b : Bench) (m : Machine) (fits : unfit b m ≡ 0) (n h : ℕ) where
     acked-15 some d =
         let w = oldest-first b m fits n i is slot x at some in
         turning b m (acknowledge n h) fits 15
-        (acknowledge-15 b (meaning b m) n h is _ (w .0) (w .1) (ap (eqb h) (handover-is b m fits n i is slot x at) ∙ ne-eqb h (x .handover) d))
+        (acknowledge-15 b (meaning b m) n h is _ (w .0) (w .1) (rw (handover-is b m fits n i is slot x at) (ne-eqb h (x .handover) d)))
 
     pub acked-0 : 0 < x .answers → h ≡ x .handover → (store′ : List ℕ) (s′ : State)
         → Listed b (m .store) store′ (m .state) s′ (takenAt (nodesIn (m .store) (m .state .nodes)) i)
@@ -112,7 +102,7 @@ module _ (b : Bench) (m : Machine) (fits : unfit b m ≡ 0) (n h : ℕ) where
     acked-0 some e store′ s′ a =
         let w = oldest-first b m fits n i is slot x at some in
         obeying b m (acknowledge n h) fits (answered done) _ _ refl
-        (acknowledge-0 b (meaning b m) n h is _ (w .0) (w .1) (ap (eqb h) (handover-is b m fits n i is slot x at) ∙ eq-eqb h (x .handover) e))
+        (acknowledge-0 b (meaning b m) n h is _ (w .0) (w .1) (rw (handover-is b m fits n i is slot x at) (eq-eqb h (x .handover) e)))
         (taken-changed b m fits n i is slot x at some store′ s′ a)
 
 -- ---- collect: it is obeyed by a machine that stays as it is
@@ -122,7 +112,8 @@ module _ (b : Bench) (m : Machine) (f : Form) (n room : ℕ) where
   collect-obeyed = go (eqb (unfit b m) 0) refl
     where
       go : (t : Bool) → eqb (unfit b m) 0 ≡ t
-          → (let o = cond t (step b (meaning b m) (collect f n room)) (saying (refused (unfit b m)) (meaning b m)) in Does b o m (o .said) m)
+          → (let o = cond t (step b (meaning b m) (collect f n room)) (saying (refused (unfit b m)) (meaning b m)) in Does b o m (o .said)
+          m)
       go true e = record {
         says = refl;
         refusal = λ _. refl;
@@ -138,12 +129,6 @@ module _ (b : Bench) (m : Machine) (f : Form) (n room : ℕ) where
     output = q ∙ ap (λ (z : Said). written z out) (sym e);
     obeyed = collect-obeyed;
   }
-
-  pub unlent-collect : (k : ℕ) (out : List ℕ) → unfit b m ≡ k → (k ≡ 0 → ⊥) → Collects b (collect f n room) m (Handout.Refused k) out out
-  unfolding expected replied written
-  unlent-collect k out e d =
-      collects (refused k) (Handout.Refused k) out out
-      (ap (λ (o : Outcome). o .said) (no-cond _ (ne-eqb (unfit b m) 0 (λ z. d (sym e ∙ z)))) ∙ ap refused e) refl refl
 
   module _ (fits : unfit b m ≡ 0) where
     said-is : (s : Said) → step b (meaning b m) (collect f n room) ≡ saying s (meaning b m) → expected b (collect f n room) m .said ≡ s
@@ -168,7 +153,7 @@ module _ (b : Bench) (m : Machine) (f : Form) (n room : ℕ) where
         collected-16 out h =
             let w = oldest-first b m fits n i is slot x at some in
             refusing 16 out
-            (collect-16 b (meaning b m) f n room is _ (w .0) (w .1) (ap (λ (l : List ℕ). leb (length l) room) e ∙ lt-leb (length v) room h))
+            (collect-16 b (meaning b m) f n room is _ (w .0) (w .1) (rw e (lt-leb (length v) room h)))
 
         pub collected-0 : length v ≤ room → (out out′ : List ℕ) → out′ ≡ v ++ drop (length v) out → (k : ℕ) → k ≡ length v
             → Collects b (collect f n room) m (Handout.Handed (record { 0 = k }) (x .handover)) out out′
@@ -177,9 +162,8 @@ module _ (b : Bench) (m : Machine) (f : Form) (n room : ℕ) where
             let w = oldest-first b m fits n i is slot x at some in
             let s : Said = answered (handed v (x .handover)) in
             let c : step b (meaning b m) (collect f n room) ≡ saying s (meaning b m) =
-            collect-0 b (meaning b m) f n room is _ (w .0) (w .1) (ap (λ (l : List ℕ). leb (length l) room) e ∙ le-leb (length v) room h)
-            ∙ ap (λ (l : List ℕ). saying (answered (handed l (meaning b m .nodes n .handover))) (meaning b m)) e
-            ∙ ap (λ (u : ℕ). saying (answered (handed v u)) (meaning b m)) (handover-is b m fits n i is slot x at) in
+            collect-0 b (meaning b m) f n room is _ (w .0) (w .1) (rw e (le-leb (length v) room h))
+            ∙ cc (e, handover-is b m fits n i is slot x at) in
             collects s (Handout.Handed (record { 0 = k }) (x .handover)) out out′ (said-is s c)
             (ap (λ (u : ℕ). Handout.Handed (record { 0 = u }) (x .handover)) j) q
 

@@ -1,27 +1,18 @@
 -- Any two outcomes that a promise permits are equal: state, store to the last word, plaque memory, reply and output.
 -- Assumes nothing.
-use Prim.Native.Nat.{ℕ, zero, suc, _+_, _-_, _*_, _≤_, _<_}
-use mathlib.Core.Path.{_≡_, refl, sym, ap, _∙_, subst}
-use mathlib.Core.Logic.{_⊎_, inl, inr}
-use mathlib.Core.Bool.{Bool, true, false, not, _&&_, cond}
-use mathlib.Core.List.{List, [], _∷_, _++_, map}
-use native.Mathlib.Omega.{arith}
+use Rattle.units.proofs.Common.{sym, _∙_, _≡_, refl, ap, inl, inr, _⊎_, true, false, Bool, cond, not, _&&_, List, [], _∷_, _++_, ℕ, _≤_}
+use Rattle.units.proofs.Common.{_-_, _+_, _<_, suc, _*_, zero, arith, eqb, leb, length, drop, getD, take, length-drop, replicate}
+use Rattle.units.proofs.Common.{take-append-drop, length-take-le, take-all, slice, ext-getD, take-take, le-leb, not-true, eqb-true}
+use Rattle.units.proofs.Common.{leb-true, every, within, and-true}
 use native.Mathlib.Nat.{zero-mul}
-use lib.Dec.{leb, eqb}
-use lib.ListN.{length, getD, take, drop, replicate, take-append-drop, length-drop}
-use lib.Seq.{slice, ext-getD, length-take-le, take-take, take-all}
-use borrow.Author.Tests.{eqb-true, leb-true, le-leb, not-true}
-use Rattle.units.specs.Count.{every, within}
 use Rattle.units.specs.declared.Words.{Words}
-use Rattle.units.proofs.Choice.{and-true}
-use Rattle.meaning.specs.Bench.{Bench, hub, isReader, isNode}
+use Rattle.meaning.proofs.Terms.{Bench, hub, isReader, isNode, Gateway, empty, plaque, never, last, on, Call, Said, refused, answered}
+use Rattle.meaning.proofs.Terms.{queued, done, quiet, handed, Outcome}
 use Rattle.meaning.specs.Gateway as M
-use Rattle.meaning.specs.Gateway.{Gateway, empty, plaque, Report, never, last, on}
-use Rattle.meaning.specs.Call.{Call, Said, refused, answered, queued, done, quiet, handed, Outcome}
+use Rattle.meaning.specs.Gateway.{Report}
 use Rattle.demands.specs.Sound.{Sound}
-use Rattle.state.specs.State.{freshReader}
-use Rattle.state.specs.Machine.{Machine, machine, meaning, nodeSlot, nodesIn, readersOf, readerOf, fieldOf, modeOf, reportOf, regionOf, plain}
-use Rattle.state.specs.Consistent.{zeros, plaqueOk, readingOk, reportOk, nameOk}
+use Rattle.state.proofs.Terms.{freshReader, Machine, machine, meaning, nodeSlot, nodesIn, readersOf, readerOf, fieldOf, modeOf, reportOf}
+use Rattle.state.proofs.Terms.{regionOf, plain, zeros, plaqueOk, readingOk, reportOk, nameOk}
 use Rattle.state.specs.declared.reader.Plaque as P
 use Rattle.state.specs.declared.reader.Reading as D
 use Rattle.state.specs.declared.reader.Report as T
@@ -45,18 +36,19 @@ zeros-are : (l : List ℕ) → zeros l ≡ true → l ≡ replicate (length l) 0
 unfolding every
 zeros-are [] e = refl
 zeros-are (x ∷ l) e =
-    let p = and-true (eqb x 0) (zeros l) e in
-    ap (λ (k : ℕ). k ∷ l) (eqb-true x 0 (p .0)) ∙ ap (λ (k : List ℕ). 0 ∷ k) (zeros-are l (p .1))
+    let p = and-true (eqb x 0) (zeros l) e in cc (eqb-true x 0 (p .0), zeros-are l (p .1))
 
 zeros-same : (l k : List ℕ) → zeros l ≡ true → zeros k ≡ true → length l ≡ length k → l ≡ k
-zeros-same l k p q e = zeros-are l p ∙ ap (λ (n : ℕ). replicate n 0) e ∙ sym (zeros-are k q)
+zeros-same l k p q e = cc (zeros-are l p, zeros-are k q)
 
 -- ---- values whose parts are equal
-name-by : {n k : ℕ} {l m : List ℕ} → n ≡ k → l ≡ m → _≡_ {A = Name} (record { length = record { 0 = n }; bytes = l }) (record { length = record { 0 = k }; bytes = m })
+name-by : {n k : ℕ} {l m : List ℕ} → n ≡ k → l ≡ m → _≡_ {A = Name} (record { length = record { 0 = n }; bytes = l })
+    (record { length = record { 0 = k }; bytes = m })
 name-by n l = cc
 
 plaque-by : {s t : Bool} {i j : List ℕ} {n k : ℕ} → s ≡ t → i ≡ j → n ≡ k
-    → _≡_ {A = P.Plaque} (record { present = s; id = i; length = record { 0 = n } }) (record { present = t; id = j; length = record { 0 = k } })
+    → _≡_ {A = P.Plaque} (record { present = s; id = i; length = record { 0 = n } })
+    (record { present = t; id = j; length = record { 0 = k } })
 plaque-by s i n = cc
 
 report-by : {s t : Bool} {i j : List ℕ} {n k : ℕ} → s ≡ t → i ≡ j → n ≡ k
@@ -64,7 +56,8 @@ report-by : {s t : Bool} {i j : List ℕ} {n k : ℕ} → s ≡ t → i ≡ j �
 report-by s i n = cc
 
 reading-by : {s t n k d e : ℕ} → s ≡ t → n ≡ k → d ≡ e
-    → _≡_ {A = D.Reading} (record { start = s; size = record { 0 = n }; delay = d }) (record { start = t; size = record { 0 = k }; delay = e })
+    → _≡_ {A = D.Reading} (record { start = s; size = record { 0 = n }; delay = d })
+    (record { start = t; size = record { 0 = k }; delay = e })
 reading-by s n d = cc
 
 reader-by : {p q : P.Plaque} {r s : D.Reading} {t u : T.Report} → p ≡ q → r ≡ s → t ≡ u
@@ -92,10 +85,7 @@ name-same s t p q a c e =
     let n : i ≡ j = sym (length-take-le i (s .bytes) (omega arith)) ∙ ap length e ∙ length-take-le j (t .bytes) (omega arith) in
     let k : length (drop i (s .bytes)) ≡ length (drop j (t .bytes)) = simp length-drop (omega arith) in
     let d : drop i (s .bytes) ≡ drop j (t .bytes) = zeros-same _ _ (u .1) (v .1) k in
-    let w : s .bytes ≡ t .bytes =
-    sym (take-append-drop i (s .bytes)) ∙ ap (λ (l : List ℕ). l ++ drop i (s .bytes)) e ∙ ap (λ (l : List ℕ). take j (t .bytes) ++ l) d
-    ∙ take-append-drop j (t .bytes) in
-    name-by n w
+    name-by n (cc (take-append-drop i (s .bytes), take-append-drop j (t .bytes)))
 
 -- ---- a reader: its parts are fixed by what they mean and the zeros
 pub clash : {A : Type 0} → _≡_ {A = ℕ} 0 1 → A
@@ -150,16 +140,15 @@ unfolding modeOf readingOk reportOf
 mode-same b r s p q f g e = go (eqb (r .size .0) 0) refl (eqb (s .size .0) 0) refl f g e
   where
     unkept : (p q : T.Report) → not (p .kept) ≡ true → not (q .kept) ≡ true → reportOf p ≡ reportOf q
-    unkept p q x y =
-        ap (λ (t : Bool). cond t (last (p .id) (p .clock)) never) (not-true (p .kept) x)
-        ∙ sym (ap (λ (t : Bool). cond t (last (q .id) (q .clock)) never) (not-true (q .kept) y))
+    unkept p q x y = rw (not-true (p .kept) x, not-true (q .kept) y)
 
     go : (t : Bool) → eqb (r .size .0) 0 ≡ t → (u : Bool) → eqb (s .size .0) 0 ≡ u
         → cond t (eqb (r .start) 0 && (eqb (r .delay) 0 && not (p .kept)))
         (leb (r .size .0) 255 && (leb (r .start + r .size .0) (b .region) && leb (r .delay) 60)) ≡ true
         → cond u (eqb (s .start) 0 && (eqb (s .delay) 0 && not (q .kept)))
         (leb (s .size .0) 255 && (leb (s .start + s .size .0) (b .region) && leb (s .delay) 60)) ≡ true
-        → cond t M.off (on (r .start) (r .size .0) (r .delay) (reportOf p)) ≡ cond u M.off (on (s .start) (s .size .0) (s .delay) (reportOf q))
+        → cond t M.off (on (r .start) (r .size .0) (r .delay) (reportOf p)) ≡ cond u M.off
+        (on (s .start) (s .size .0) (s .delay) (reportOf q))
         → SameMode r s p q
     go true a true c x y e =
         let x₁ = and-true (eqb (r .start) 0) _ x in
@@ -167,7 +156,8 @@ mode-same b r s p q f g e = go (eqb (r .size .0) 0) refl (eqb (s .size .0) 0) re
         let x₂ = and-true (eqb (r .delay) 0) _ (x₁ .1) in
         let y₂ = and-true (eqb (s .delay) 0) _ (y₁ .1) in
         record {
-          reading = reading-by (eqb-true _ _ (x₁ .0) ∙ sym (eqb-true _ _ (y₁ .0))) (eqb-true _ _ a ∙ sym (eqb-true _ _ c)) (eqb-true _ _ (x₂ .0) ∙ sym (eqb-true _ _ (y₂ .0)));
+          reading = reading-by (eqb-true _ _ (x₁ .0) ∙ sym (eqb-true _ _ (y₁ .0))) (eqb-true _ _ a ∙ sym (eqb-true _ _ c))
+              (eqb-true _ _ (x₂ .0) ∙ sym (eqb-true _ _ (y₂ .0)));
           report = unkept p q (x₂ .1) (y₂ .1);
         }
     go true a false c x y e = clash (cc)
@@ -186,7 +176,8 @@ reader-same b x y f g e h =
 part-end : (l : List ℕ) (f t : ℕ) → f ≤ t → take f l ++ slice f t l ≡ take t l
 part-end l f t h = ap (λ (k : List ℕ). k ++ drop f (take t l)) (sym (take-take f t l h)) ∙ take-append-drop f (take t l)
 
-rows-same : (b : Bench) (l k : List ℕ) → ((n : ℕ) → regionOf b l n ≡ regionOf b k n) → (n : ℕ) → take (n * b .region) l ≡ take (n * b .region) k
+rows-same : (b : Bench) (l k : List ℕ) → ((n : ℕ) → regionOf b l n ≡ regionOf b k n) → (n : ℕ) → take (n * b .region) l ≡ take
+    (n * b .region) k
 unfolding regionOf
 rows-same b l k h zero = let e : 0 * b .region ≡ 0 = zero-mul (b .region) in rw e refl
 rows-same b l k h (suc n) =
@@ -194,14 +185,14 @@ rows-same b l k h (suc n) =
     let t = suc n * b .region in
     let i : suc n - 1 ≡ n = omega arith in
     let o : f ≤ t = omega arith in
-    let e : slice f t l ≡ slice f t k =
-    ap (λ (j : ℕ). slice (j * b .region) t l) (sym i) ∙ h (suc n) ∙ ap (λ (j : ℕ). slice (j * b .region) t k) i in
-    sym (part-end l f t o) ∙ ap (λ (u : List ℕ). u ++ slice f t l) (rows-same b l k h n) ∙ ap (λ (u : List ℕ). take f k ++ u) e ∙ part-end k f t o
+    let e : slice f t l ≡ slice f t k = rw i at (h (suc n)) in
+    cc (part-end l f t o, part-end k f t o, rows-same b l k h n)
 
 memory-same : (b : Bench) (l k : List ℕ) → length l ≡ b .readers * b .region → length k ≡ b .readers * b .region
     → ((n : ℕ) → regionOf b l n ≡ regionOf b k n) → l ≡ k
 memory-same b l k p q h =
-    sym (take-all (b .readers * b .region) l (omega arith)) ∙ rows-same b l k h (b .readers) ∙ take-all (b .readers * b .region) k (omega arith)
+    sym (take-all (b .readers * b .region) l (omega arith)) ∙ rows-same b l k h (b .readers) ∙ take-all (b .readers * b .region) k
+    (omega arith)
 
 -- ---- two machines with one meaning
 -- every index is a reader's, and a node's
@@ -237,16 +228,16 @@ module _ (b : Bench) (ok : Sound b) (m n : Machine) (p : Parts b m) (q : Parts b
       let z : readerOf x (regionOf b (m .memory) (i + 1)) ≡ readerOf y (regionOf b (n .memory) (i + 1)) =
       sym (reader-at b m (i + 1) r) ∙ ap (λ (g : Gateway). g .reader (i + 1)) e ∙ reader-at b n (i + 1) r in
       let w : x ≡ y =
-      reader-same b x y (reader-parts b x (reader-in-order b m (i + 1) r x refl p)) (reader-parts b y (reader-in-order b n (i + 1) r y refl q))
+      reader-same b x y (reader-parts b x (reader-in-order b m (i + 1) r x refl p))
+      (reader-parts b y (reader-in-order b n (i + 1) r y refl q))
       (ap (λ (v : M.Reader). v .field) z) (ap (λ (v : M.Reader). v .mode) z) in
-      subst (λ (k : ℕ). getD (m .state .readers) k freshReader ≡ getD (n .state .readers) k freshReader) s w
+      rw s at w
 
   node-each : (i : ℕ) → i < b .readers + 1
       → getD (nodesIn (m .store) (m .state .nodes)) i plain ≡ getD (nodesIn (n .store) (n .state .nodes)) i plain
   node-each i h =
       let j = index-node b ok i h in
-      subst (λ (k : ℕ). getD (nodesIn (m .store) (m .state .nodes)) k plain ≡ getD (nodesIn (n .store) (n .state .nodes)) k plain) (j .slot)
-      (sym (node-at b m (j .node) (j .is)) ∙ ap (λ (g : Gateway). g .nodes (j .node)) e ∙ node-at b n (j .node) (j .is))
+      rw (← (j .slot)) (sym (node-at b m (j .node) (j .is)) ∙ ap (λ (g : Gateway). g .nodes (j .node)) e ∙ node-at b n (j .node) (j .is))
 
   nodes-same : nodesIn (m .store) (m .state .nodes) ≡ nodesIn (n .store) (n .state .nodes)
   nodes-same = ext-getD plain _ _ (many b m p ∙ sym (many b n q)) (λ i h. node-each i (omega (arith, many b m p)))
@@ -255,7 +246,8 @@ module _ (b : Bench) (ok : Sound b) (m n : Machine) (p : Parts b m) (q : Parts b
   pub same-means : m ≡ n
   unfolding meaning
   same-means =
-      let o = one-content b (m .store) (n .store) (m .state .nodes) (n .state .nodes) (m .state .held) (n .state .held) (p .store) (q .store)
+      let o = one-content b (m .store) (n .store) (m .state .nodes) (n .state .nodes) (m .state .held) (n .state .held) (p .store)
+      (q .store)
       (p .lists) (q .lists) nodes-same in
       machine-by
       (state-by (name-same (m .state .name) (n .state .name) (p .name) (q .name) (p .wide) (q .wide) (ap (λ (g : Gateway). g .name) e))
@@ -298,6 +290,7 @@ module _ (b : Bench) (ok : Sound b) where
       let o = only c m (spoken r₁) (spoken r₂) m₁ m₂ p q in (sym (back r₁) ∙ ap unspoken (o .0) ∙ back r₂, o .1)
 
   -- collect: one reply, one content of the lent output
-  pub only-collect : (c : Call) (m : Machine) (r₁ r₂ : Handout) (out o₁ o₂ : List ℕ) → O.Collects b c m r₁ out o₁ → O.Collects b c m r₂ out o₂
+  pub only-collect : (c : Call) (m : Machine) (r₁ r₂ : Handout) (out o₁ o₂ : List ℕ) → O.Collects b c m r₁ out o₁ → O.Collects b c m r₂ out
+      o₂
       → (r₁ ≡ r₂) × (o₁ ≡ o₂)
   only-collect c m r₁ r₂ out o₁ o₂ p q = (p .reply ∙ sym (q .reply), p .output ∙ sym (q .output))

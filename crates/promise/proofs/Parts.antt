@@ -1,19 +1,10 @@
 -- Refusals 1 and 2, part by part: what is known of a machine that has neither, and what has to be shown for it.
 -- Assumes nothing.
-use Prim.Native.Nat.{_+_, _*_, _≤_}
-use mathlib.Core.Path.{_≡_, refl, ap, _∙_}
-use mathlib.Core.Bool.{Bool, true, false, not}
-use native.Mathlib.Omega.{arith}
-use lib.Dec.{eqb}
-use lib.ListN.{length}
-use borrow.Author.Tests.{eqb-true, eq-eqb, not-false}
-use Rattle.units.specs.Count.{every}
-use Rattle.units.proofs.Choice.{and-true}
-use Rattle.meaning.specs.Bench.{Bench}
-use Rattle.meaning.specs.Gateway.{Gateway}
+use Rattle.units.proofs.Common.{_∙_, _≡_, refl, ap, true, false, Bool, not, _≤_, _+_, _*_, arith, eqb, length, eq-eqb, not-false, eqb-true}
+use Rattle.units.proofs.Common.{every, and-true}
+use Rattle.meaning.proofs.Terms.{Bench, Gateway}
 use Rattle.meaning.proofs.Chain.{accepts, fine, none, this, pass-if, stop-if}
-use Rattle.state.specs.Machine.{Machine, meaning}
-use Rattle.state.specs.Consistent.{listsOk, nodeOk, readerOk, nameOk, arrays, consistent, lengths, lent, unfit}
+use Rattle.state.proofs.Terms.{Machine, meaning, listsOk, nodeOk, readerOk, nameOk, arrays, consistent, lengths, lent, unfit}
 use Rattle.state.proofs.Lists.{both}
 
 pub record Parts (b : Bench) (m : Machine) : Type 0 where

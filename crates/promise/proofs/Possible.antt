@@ -1,31 +1,20 @@
 -- Every call can be obeyed on every machine, so every list of calls is that of a chain: the theorems about chains speak of all calls.
 -- Assumes nothing.
-use Prim.Native.Nat.{ℕ, zero, suc, _+_, _-_, _*_, _≤_, _<_}
-use mathlib.Core.Path.{_≡_, refl, sym, ap, _∙_, subst}
-use mathlib.Core.Bool.{Bool, true, false, false≢true}
-use mathlib.Core.List.{List, [], _∷_, _++_}
-use native.Mathlib.Omega.{arith}
-use native.Mathlib.Decide.{ℕ-discrete}
-use lib.Dec.{leb, eqb, lit<, lit≤}
-use lib.ListN.{length, getD, take, drop, replicate, length-append, length-drop, length-take, length-replicate}
-use lib.Seq.{paste, slice, take-at, drop-at}
-use borrow.Author.Tests.{eqb-true, eq-eqb, leb-true, le-leb}
-use Rattle.units.specs.Count.{every, within}
-use Rattle.units.specs.Stamp.{isStamp}
+use Rattle.units.proofs.Common.{sym, _∙_, _≡_, refl, ap, true, false, Bool, cond, List, [], _∷_, _++_, ℕ, _≤_, _-_, _+_, _<_, suc, _*_}
+use Rattle.units.proofs.Common.{zero, ℕ-discrete, arith, eqb, leb, lit≤, lit<, length, drop, getD, take, length-drop, replicate}
+use Rattle.units.proofs.Common.{length-append, length-replicate, length-take, paste, slice, take-at, drop-at, eq-eqb, le-leb, eqb-true}
+use Rattle.units.proofs.Common.{leb-true, every, isStamp, and-true, yes-cond, not-false}
 use Rattle.units.specs.declared.Form.{Form}
 use Rattle.units.specs.declared.stamp.Stamp.{Stamp}
-use Rattle.units.proofs.Choice.{and-true, yes-cond, no-cond}
-use Rattle.meaning.specs.Refusal.{refusal}
-use Rattle.meaning.specs.Bench.{full, hub, isReader, isNode}
-use Rattle.meaning.specs.Table.{_to_, suits, carries, carried}
-use Rattle.meaning.specs.Command.{commandDoubts, commandResult, readCommand}
-use Rattle.meaning.specs.Response.{wellFormed}
+use Rattle.meaning.proofs.Terms.{refusal, full, hub, isReader, isNode, _to_, carries, carried, commandDoubts, commandResult, readCommand}
+use Rattle.meaning.proofs.Terms.{wellFormed, shown, Gateway, clearing, resetting, swept, taken, Field, empty, plaque, never, on, setNode}
+use Rattle.meaning.proofs.Terms.{setReader, setField, setMode, join, fits, Call, command, check, arrive, leave, collect, asked, acknowledge}
+use Rattle.meaning.proofs.Terms.{Said, refused, answered, queued, done, Outcome, Local, Try, idle, answer, obeyed, tagged, whom, ranged}
+use Rattle.meaning.proofs.Terms.{looked, left, repeats, ruled, governed, collecting, acknowledging, atReader, atHub, Whom, heeded}
+use Rattle.meaning.proofs.Terms.{commandIn, kindIn, bytesIn, named, judged, fromDesk, lifted, settled}
 use Rattle.meaning.specs.Gateway as M
-use Rattle.meaning.specs.Gateway.{Gateway, clearing, resetting, swept, plaque, never, last, on, setReader, setMode, setRegion, join}
-use Rattle.meaning.specs.Room.{fits}
-use Rattle.meaning.specs.Call.{Call, command, check, arrive, leave, collect, acknowledge, Said, refused, answered, queued, done, quiet}
-use Rattle.meaning.specs.Call.{Outcome, Local, Try, Desk, idle, answer, tagNotFound, obeyed, looked, repeats, ruled, governed}
-use Rattle.meaning.specs.Call.{commandIn, kindIn, bytesIn, fromDesk, lifted, settled}
+use Rattle.meaning.specs.Gateway.{setRegion}
+use Rattle.meaning.specs.Call.{started}
 use Rattle.meaning.specs.declared.table.OnPlaque.{OnPlaque}
 use Rattle.meaning.specs.declared.table.OnPlaque.the-variants.{Fill, Read, Write, ReadId, Search}
 use Rattle.meaning.specs.declared.table.OfGateway.{OfGateway}
@@ -35,11 +24,15 @@ use Rattle.meaning.specs.declared.table.Kind.the-variants as K
 use Rattle.meaning.specs.declared.table.Row.{Row}
 use Rattle.meaning.specs.declared.packet.Command.{Command}
 use Rattle.meaning.specs.declared.packet.CommandRead.the-variants as R
+use Rattle.meaning.proofs.Chain.{accepts, fine}
 use Rattle.meaning.proofs.CommandLaws.{read-is, data-length}
 use Rattle.demands.specs.Sound.{full-sound}
-use Rattle.state.specs.State.{freshReader, freshNode, off, noReport}
-use Rattle.state.specs.Machine.{Machine, machine, meaning, nodeSlot, readerOf, fieldOf, modeOf, reportOf, regionOf}
-use Rattle.state.specs.Consistent.{nodeAt, counts, readerOk, nameOk, unfit}
+use Rattle.demands.proofs.Local.{cond-all}
+use Rattle.demands.proofs.Aim.{Aim, aim}
+use Rattle.demands.proofs.Numbers.{never-nobody}
+use Rattle.state.proofs.Terms.{freshReader, freshNode, noPlaque, noReport, Machine, meaning, nodeSlot, readerOf, fieldOf, modeOf, reportOf}
+use Rattle.state.proofs.Terms.{regionOf, nodeAt, counts, readerOk, nameOk, unfit}
+use Rattle.state.specs.State.{off}
 use Rattle.state.specs.declared.reader.Reading.{Reading}
 use Rattle.state.specs.declared.reader.Reader.{Reader}
 use Rattle.state.specs.declared.node.Node.{Node}
@@ -48,27 +41,23 @@ use Rattle.lists.specs.Room.{roomFor}
 use Rattle.state.proofs.Lists.{both}
 use Rattle.store.specs.Changes.{Sound}
 use Rattle.store.proofs.Promised as Lists
-use Rattle.promise.specs.Obeyed.{Does, expected, Obeyed}
+use Rattle.promise.specs.Obeyed.{turned, Does, Obeyed}
 use Rattle.promise.specs.Runs.{Heard, Chain, calls}
 use Rattle.promise.proofs.Parts.{parts, Means}
 use Rattle.promise.proofs.Tables.{node-inside, node-hub, reader-node, reader-slot}
 use Rattle.promise.proofs.Regions.{untouched, region-paste, pasted}
-use Rattle.promise.proofs.Readers.{reader-is, field-is, mode-is, reader-in-order, reader-changed, reader-parts, id-long}
-use Rattle.promise.proofs.Readers.{plaque-bytes, reading-range}
-use Rattle.promise.proofs.Readers.{withReading, stopped-ok, stopped-means, started-ok, started-means, reported-ok, reported-means}
+use Rattle.promise.proofs.Readers.{reader-is, field-is, mode-is, reader-in-order, reader-changed, reader-parts, id-long, left-ok}
+use Rattle.promise.proofs.Readers.{plaque-bytes, reading-range, withPlaque, withReading, stopped-ok, started-ok, reported-ok}
+use Rattle.promise.proofs.Readers.{reported-means}
 use Rattle.promise.proofs.Nodes.{name-changed}
-use Rattle.promise.proofs.Promises.{unlent, refusing}
-use Rattle.promise.proofs.Steps.{same-reader, same-desk}
+use Rattle.promise.proofs.Promises.{unlent, does-refused, does-said, by-step}
+use Rattle.promise.proofs.Steps.{heeded-by, refused-by, same-reader, same-desk}
 use Rattle.promise.proofs.Answers.{reader-index, hub-index, answer-formed, not-found-formed}
 use Rattle.promise.proofs.Dues.{due-13, due-queued, room-due, joins}
-use Rattle.promise.proofs.Plaques.{left-7, left-14, left-0, arrived-7, arrived-9, arrived-10, arrived-0}
-use Rattle.promise.proofs.Oldest.{takes, acked-7, acked-14, acked-15, acked-0, collect-obeyed}
+use Rattle.promise.proofs.Plaques.{arrived-changed}
+use Rattle.promise.proofs.Oldest.{pending-long, takes, taken-changed}
 use Rattle.promise.proofs.Sweeps.{cleared, restarted}
-use Rattle.promise.proofs.Locals.{tag-none, fill-12, read-12, write-12, fill-due, read-due, write-due, id-due, search-due}
-use Rattle.promise.proofs.Locals.{stop-due, start-due, reset-due, quiet-none, quiet-off, quiet-repeat, check-12, check-due}
-use Rattle.promise.proofs.Commands.{reader-unchanged, commanded-3, commanded-refused, reader-commanded, hub-commanded}
-use Rattle.promise.proofs.Commands.{checked-3, checked-7, checked-by}
-use Rattle.promise.proofs.Accepted.{rowFor, row-regular, Accepted, accepted, used, reader-suited, Reads, reads}
+use Rattle.promise.proofs.Accepted.{rowFor, row-regular, Accepted, accepted, used, reads}
 
 -- some machine that means a gateway
 record Some (g : Gateway) : Type 0 where
@@ -86,7 +75,8 @@ joined-some m h e n is w formed f =
     sym (room-due full full-sound n i is refl w formed m h (e .fit) (ap (λ (g : Gateway). g .nodes) (e .means))) ∙ f in
     let at : i < length ns = node-inside full n (length ns) is (p .eachNode) in
     let ok : Sound full (m .store) (m .state) = record { size = p .store; lists = p .lists } in
-    let a = Lists.join full (m .store) (m .state) ok i at w (record { sound = ok; index = at; answer = formed; room = r }) _ (sym (p .eachNode)) in
+    let a = Lists.join full (m .store) (m .state) ok i at w (record { sound = ok; index = at; answer = formed; room = r }) _
+    (sym (p .eachNode)) in
     record { there = _; is = joins full full-sound n i is refl w formed m h e _ _ (a .after) }
 
 -- bytes of a part of a list
@@ -122,6 +112,42 @@ module _ (m : Machine) (ok : unfit full m ≡ 0) where
           record { said = queued; after = q .there; does = due-queued full m n h w e (q .there) (q .is) }
       go false e = record { said = refused 13; after = m; does = due-13 full m n h w e m refl }
 
+  -- what a local outcome at node n needs: a machine with what is changed, and an answer that is well formed
+  Good : {A : Type 0} → (A → Gateway → Gateway) → ℕ → Local A → Type 0
+  Good into n (Local.refuse k) = Unit
+  Good into n (Local.give r a) = Some (into a g)
+  Good into n Local.acked = Some (setNode n (taken (g .nodes n)) g)
+  Good into n (Local.due a w) = (wellFormed full (nodeAt full (nodeSlot full n)) w ≡ true) × Some (into a g)
+
+  module _ {A : Type 0} (into : A → Gateway → Gateway) (n : ℕ) where
+    can-local : isNode full n ≡ true → (l : Local A) → Good into n l → Can (settled full g (lifted into n g l))
+    unfolding Good lifted settled turned
+    can-local is (Local.refuse k) h = record { said = refused k; after = m; does = does-refused full m k }
+    can-local is (Local.give r a) h = record { said = answered r; after = h .there; does = does-said full m _ _ _ refl (h .is) }
+    can-local is Local.acked h = record { said = answered done; after = h .there; does = does-said full m _ _ _ refl (h .is) }
+    can-local is (Local.due a w) h = can-due n (into a g) w is (h .0) (h .1)
+
+    -- ---- a call about the node's list
+    good-collecting : (a : A) → Some (into a g) → (f : Form) (k room h : ℕ) (ws : List (List ℕ)) → Good into n (collecting a f k room h ws)
+    unfolding collecting Good
+    good-collecting a s f k room h [] = tt
+    good-collecting a s f k room h (w ∷ ws) = cond-all (Good into n) (leb (length (shown f k w)) room) _ _ s tt
+
+    good-acknowledging : isNode full n ≡ true → (h : ℕ) → Good into n (acknowledging (g .nodes n .handover) h (g .nodes n .pending))
+    unfolding acknowledging Good
+    good-acknowledging is h = go (g .nodes n .pending) refl
+      where
+        y : Node
+        y = getD (m .state .nodes) (nodeSlot full n) freshNode
+
+        go : (ws : List (List ℕ)) → g .nodes n .pending ≡ ws → Good into n (acknowledging (g .nodes n .handover) h ws)
+        go [] e = tt
+        go (w ∷ ws) e =
+            let some : 0 < y .answers = omega (arith, pending-long full m ok n (nodeSlot full n) is refl y refl, ap length e) in
+            let a = takes full m ok n (nodeSlot full n) is refl y refl some .after in
+            cond-all (Good into n) (eqb h (g .nodes n .handover)) _ _
+            (record { there = _; is = taken-changed full m ok n (nodeSlot full n) is refl y refl some _ _ a }) tt
+
   -- ---- at reader n
   module _ (n : ℕ) (is : isReader full n ≡ true) where
     abbrev x : Reader
@@ -133,22 +159,11 @@ module _ (m : Machine) (ok : unfit full m ≡ 0) where
     same : r ≡ readerOf x (regionOf full (m .memory) n)
     same = reader-is full m n is x refl
 
-    fine : readerOk full x ≡ true
-    fine = reader-in-order full m n is x refl (parts full m ok)
+    orderly : readerOk full x ≡ true
+    orderly = reader-in-order full m n is x refl (parts full m ok)
 
-    abbrev AtN : Local M.Reader → Type 0
-    AtN l = Can (settled full g (lifted (setReader n) n g l))
-
-    can-refuse : {l : Local M.Reader} (k : ℕ) → l ≡ Local.refuse k → AtN l
-    can-refuse k e = record { said = refused k; after = m; does = refusing full m (setReader n) n e }
-
-    can-answer : {l : Local M.Reader} {a : M.Reader} {w : List ℕ} → l ≡ Local.due a w → wellFormed full (nodeAt full (n - 1)) w ≡ true
-        → Some (setReader n a g) → AtN l
-    unfolding lifted
-    can-answer {l} {a} {w} e formed s =
-        let f : wellFormed full (nodeAt full (nodeSlot full n)) w ≡ true =
-        ap (λ (i : ℕ). wellFormed full (nodeAt full i) w) (reader-slot full full-sound n is) ∙ formed in
-        subst AtN (sym e) (can-due n (setReader n a g) w (reader-node full n is) f s)
+    abbrev Well : Local M.Reader → Type 0
+    Well l = Good (setReader n) n l
 
     -- the reader as it is, and changed
     unchanged : Some (setReader n r g)
@@ -167,137 +182,126 @@ module _ (m : Machine) (ok : unfit full m ≡ 0) where
         ap (readerOf x) (region-paste full n (m .memory) is (p .memory) start bytes k h has)
         ∙ ap (λ (y : M.Reader). setRegion (paste (y .region) start bytes k) y) (sym same) in
         let inside = pasted full n (m .memory) is (p .memory) start bytes k h has in
-        record { there = _; is = reader-changed full m n is x memory′ inside ok fine _ own }
+        record { there = _; is = reader-changed full m n is x memory′ inside ok orderly _ own }
 
     stopped : Some (setReader n (setMode M.off r) g)
-    stopped =
-        changed (withReading x off noReport) (stopped-ok full x fine) _
-        (stopped-means x (regionOf full (m .memory) n) ∙ ap (setMode M.off) (sym same))
+    unfolding readerOf modeOf
+    stopped = changed (withReading x off noReport) (stopped-ok full x orderly) _ (ap (setMode M.off) (sym same))
+
+    -- a plaque that is there is one
+    Sized : Field → Type 0
+    Sized empty = Unit
+    Sized (plaque id len) = (length id ≡ 8) × (len ≤ 1024)
+
+    sized : Sized (r .field)
+    unfolding fieldOf Sized
+    sized = rw (field-is full m n is x refl) (go (x .plaque .present) refl)
+      where
+        go : (u : Bool) → x .plaque .present ≡ u → Sized (cond u (plaque (x .plaque .id) (x .plaque .length .0)) empty)
+        go true e = let p = reader-parts full x orderly .plaque in (id-long full (x .plaque) p, plaque-bytes full (x .plaque) p e .1)
+        go false e = tt
+
+    good-left : (f : Field) → Well (left r f)
+    unfolding left readerOf fieldOf Good
+    good-left empty = tt
+    good-left (plaque id len) =
+        changed (withPlaque x noPlaque) (left-ok full x orderly) _ (ap (setField empty) (sym same))
 
     -- answers are well formed
     module _ (t : Stamp) (good : isStamp t ≡ true) where
       abbrev v : M.Node
       v = g .nodes n
 
-      formed : (echo : ℕ) (s : List ℕ) → echo < 256 → length s ≤ 255 → wellFormed full (nodeAt full (n - 1)) (answer n v t echo s) ≡ true
-      formed echo s h l =
-          answer-formed full full-sound n (n - 1) (reader-index full n is) v t (reader-node full n is) good _ echo s refl h l
+      at : nodeAt full (nodeSlot full n) ≡ n
+      at = ap (nodeAt full) (reader-slot full full-sound n is) ∙ reader-index full n is
 
-      not-found : wellFormed full (nodeAt full (n - 1)) (tagNotFound n v t) ≡ true
-      not-found = not-found-formed full full-sound n (n - 1) (reader-index full n is) v t (reader-node full n is) good _ refl
+      formed : (echo : ℕ) (s : List ℕ) → echo < 256 → length s ≤ 255
+          → wellFormed full (nodeAt full (nodeSlot full n)) (answer n v t echo s) ≡ true
+      formed echo s h l = answer-formed full full-sound n (nodeSlot full n) at v t (reader-node full n is) good _ echo s refl h l
 
       -- ---- 04 to 08
       module _ (c : Command) (bs : List ℕ) where
-        can-fill : c .start + c .size ≤ 1024 → (id : List ℕ) (len : ℕ) → r .field ≡ plaque id len → leb (c .start + c .size) len ≡ true
-            → AtN (obeyed n v t (K.Plaque Fill) c bs r)
-        can-fill h id len e d =
-            can-answer (fill-due n v t c bs r id len e d) (formed 0x04 [] (lit< tt) (lit≤ tt))
-            (written (c .start) (replicate (c .size) (getD bs 0 0)) (c .size) h (omega (arith, length-replicate (c .size) (getD bs 0 0))))
-
-        can-plaque : (k : OnPlaque) → Accepted full (K.Plaque k) c → length bs ≡ carries (rowFor full (K.Plaque k) .load) (c .size)
-            → (id : List ℕ) (len : ℕ) → r .field ≡ plaque id len → length id ≡ 8 → len ≤ 1024
-            → (u : Bool) → leb (c .start + c .size) len ≡ u
-            → AtN (obeyed n v t (K.Plaque k) c bs r)
-        unfolding carries
-        can-plaque Fill a l id len e i h true d =
-            can-fill (omega (arith, leb-true (c .start + c .size) len d)) id len e d
-        can-plaque Fill a l id len e i h false d = can-refuse 12 (fill-12 n v t c bs r id len e d)
-        can-plaque Read a l id len e i h true d =
-            can-answer (read-due n v t c bs r id len e d)
-            (formed 0x05 _ (lit< tt)
-            (omega (arith, part-short (c .start) (c .start + c .size) (r .region), used (1 to 255) (c .size) refl (a .size))))
-            unchanged
-        can-plaque Read a l id len e i h false d = can-refuse 12 (read-12 n v t c bs r id len e d)
-        can-plaque Write a l id len e i h true d =
-            can-answer (write-due n v t c bs r id len e d) (formed 0x06 [] (lit< tt) (lit≤ tt))
-            (written (c .start) bs (c .size) (omega (arith, leb-true (c .start + c .size) len d)) (omega arith))
-        can-plaque Write a l id len e i h false d = can-refuse 12 (write-12 n v t c bs r id len e d)
-        can-plaque ReadId a l id len e i h u d =
-            can-answer (id-due n v t c bs r id len e) (formed 0x07 id (lit< tt) (omega arith)) unchanged
-        can-plaque Search a l id len e i h u d =
-            can-answer (search-due n v t c bs r id len e) (formed 0x08 [] (lit< tt) (lit≤ tt)) unchanged
-
-        can-tagged : (k : OnPlaque) → Accepted full (K.Plaque k) c → length bs ≡ carries (rowFor full (K.Plaque k) .load) (c .size)
-            → AtN (obeyed n v t (K.Plaque k) c bs r)
-        unfolding fieldOf
-        can-tagged k a l = go (x .plaque .present) refl
+        good-ranged : (len : ℕ) (l : Local M.Reader) → (c .start + c .size ≤ len → Well l) → Well (ranged c len l)
+        unfolding ranged Good
+        good-ranged len l h = go (leb (c .start + c .size) len) refl
           where
-            go : (u : Bool) → x .plaque .present ≡ u → AtN (obeyed n v t (K.Plaque k) c bs r)
-            go true e =
-                let p = reader-parts full x fine .plaque in
-                can-plaque k a l (x .plaque .id) (x .plaque .length .0) (field-is full m n is x refl ∙ yes-cond _ e)
-                (id-long full (x .plaque) p) (plaque-bytes full (x .plaque) p e .1) (leb (c .start + c .size) (x .plaque .length .0)) refl
-            go false e = can-answer (tag-none n v t c bs r k (field-is full m n is x refl ∙ no-cond _ e)) not-found unchanged
+            go : (u : Bool) → leb (c .start + c .size) len ≡ u → Well (cond u l (Local.refuse 12))
+            go true e = h (leb-true _ _ e)
+            go false e = tt
 
-        -- ---- 0D, 54
-        can-continuous : Reads full c → AtN (obeyed n v t K.Continuous c bs r)
-        can-continuous d = go (eqb (c .size) 0) refl
+        good-tagged : (k : OnPlaque) → Accepted full (K.Plaque k) c → length bs ≡ carries (rowFor full (K.Plaque k) .load) (c .size)
+            → (f : Field) → Sized f → Well (tagged n v t k c bs r f)
+        unfolding tagged carries Good Sized
+        good-tagged k a l empty h =
+            (not-found-formed full full-sound n (nodeSlot full n) at v t (reader-node full n is) good _ refl, unchanged)
+        good-tagged Fill a l (plaque id len) h =
+            let long = length-replicate (c .size) (getD bs 0 0) in
+            good-ranged len _ (λ d. (formed 0x04 [] (lit< tt) (lit≤ tt), written (c .start) _ (c .size) (omega arith) (omega arith)))
+        good-tagged Read a l (plaque id len) h =
+            let short = part-short (c .start) (c .start + c .size) (r .region) in
+            let few = used (1 to 255) (c .size) refl (a .size) in
+            good-ranged len _ (λ d. (formed 0x05 _ (lit< tt) (omega arith), unchanged))
+        good-tagged Write a l (plaque id len) h =
+            good-ranged len _ (λ d. (formed 0x06 [] (lit< tt) (lit≤ tt), written (c .start) bs (c .size) (omega arith) (omega arith)))
+        good-tagged ReadId a l (plaque id len) h = (formed 0x07 id (lit< tt) (omega arith), unchanged)
+        good-tagged Search a l (plaque id len) h = (formed 0x08 [] (lit< tt) (lit≤ tt), unchanged)
+
+        -- ---- 0D
+        good-started : Accepted full K.Continuous c → Some (setReader n (setMode (started c) r) g)
+        unfolding started readerOf modeOf reportOf
+        good-started a = go (eqb (c .size) 0) refl
           where
-            go : (u : Bool) → eqb (c .size) 0 ≡ u → AtN (obeyed n v t K.Continuous c bs r)
-            go true e = can-answer (stop-due n v t c bs r e) (formed 0x0D [] (lit< tt) (lit≤ tt)) stopped
+            go : (u : Bool) → eqb (c .size) 0 ≡ u
+                → Some (setReader n (setMode (cond u M.off (on (c .start) (c .size) (c .word4) never)) r) g)
+            go true e = stopped
             go false e =
+                let d = reads full c a in
                 let y : Reading = record { start = c .start; size = record { 0 = c .size }; delay = c .word4 } in
-                can-answer (start-due n v t c bs r e) (formed 0x0D [] (lit< tt) (lit≤ tt))
-                (changed (withReading x y noReport) (started-ok full x fine y e (d .size) (d .range) (d .delay)) _
-                (started-means x (regionOf full (m .memory) n) y e ∙ ap (setMode (on (c .start) (c .size) (c .word4) never)) (sym same)))
+                changed (withReading x y noReport) (started-ok full x orderly y e (d .size) (d .range) (d .delay)) _
+                (rw (same, e))
 
-        can-reset : AtN (obeyed n v t K.ResetReader c bs r)
-        can-reset = can-answer (reset-due n v t c bs r) (formed 0x54 [] (lit< tt) (lit≤ tt)) stopped
+        good-obeyed : (k : Kind) → Accepted full k c → length bs ≡ carries (rowFor full k .load) (c .size) → Well (obeyed n v t k c bs r)
+        unfolding obeyed Good
+        good-obeyed (K.Plaque k) a l = good-tagged k a l (r .field) sized
+        good-obeyed K.Continuous a l = (formed 0x0D [] (lit< tt) (lit≤ tt), good-started a)
+        good-obeyed K.ResetReader a l = (formed 0x54 [] (lit< tt) (lit≤ tt), stopped)
+        good-obeyed (K.Gateway k) a l = tt
+        good-obeyed K.Unknown a l = tt
 
       -- ---- a field check
-      can-look : (clock : ℕ) → AtN (looked n v t clock r (r .field) (r .mode))
-      unfolding fieldOf modeOf
-      can-look clock = go (x .plaque .present) refl (eqb (x .reading .size .0) 0) refl
+      good-looked : (clock : ℕ) → Well (looked n v t clock r (r .field) (r .mode))
+      unfolding looked fieldOf modeOf Good
+      good-looked clock =
+          rw (field-is full m n is x refl, mode-is full m n is x refl) (go (x .plaque .present) (eqb (x .reading .size .0) 0) refl)
         where
-          quietly : looked n v t clock r (r .field) (r .mode) ≡ Local.give quiet r → AtN (looked n v t clock r (r .field) (r .mode))
-          quietly e = record { said = answered quiet; after = m; does = reader-unchanged full m ok n e }
-
-          report : x .plaque .present ≡ true → eqb (x .reading .size .0) 0 ≡ false → (u : Bool)
-              → repeats (x .plaque .id) clock (x .reading .delay) (reportOf (x .report)) ≡ u → (w : Bool)
-              → leb (x .reading .start + x .reading .size .0) (x .plaque .length .0) ≡ w → AtN (looked n v t clock r (r .field) (r .mode))
-          report e f u p w d = by u p w d
-            where
-              there : r .field ≡ plaque (x .plaque .id) (x .plaque .length .0)
-              there = field-is full m n is x refl ∙ yes-cond _ e
-
-              going : r .mode ≡ on (x .reading .start) (x .reading .size .0) (x .reading .delay) (reportOf (x .report))
-              going = mode-is full m n is x refl ∙ no-cond _ f
-
-              by : (u : Bool) → repeats (x .plaque .id) clock (x .reading .delay) (reportOf (x .report)) ≡ u → (w : Bool)
-                  → leb (x .reading .start + x .reading .size .0) (x .plaque .length .0) ≡ w
-                  → AtN (looked n v t clock r (r .field) (r .mode))
-              by true p w d = quietly (quiet-repeat n v t clock r _ _ there _ _ _ _ going p)
-              by false p false d = can-refuse 12 (check-12 n v t clock r _ _ there _ _ _ _ going p d)
-              by false p true d =
-                  let q = reading-range full (x .reading) (x .report .kept) (reader-parts full x fine .reading) f in
-                  can-answer (check-due n v t clock r _ _ there _ _ _ _ going p d)
-                  (formed 0x0D _ (lit< tt)
-                  (omega (arith, part-short (x .reading .start) (x .reading .start + x .reading .size .0) (r .region))))
-                  (changed _ (reported-ok full x fine clock f) _
-                  (reported-means x (regionOf full (m .memory) n) clock f
-                  ∙ ap (setMode (on _ _ _ (last (x .plaque .id) clock))) (sym same)))
-
-          go : (s : Bool) → x .plaque .present ≡ s → (o : Bool) → eqb (x .reading .size .0) 0 ≡ o
-              → AtN (looked n v t clock r (r .field) (r .mode))
-          go false e o f = quietly (quiet-none n v t clock r (field-is full m n is x refl ∙ no-cond _ e))
-          go true e true f = quietly (quiet-off n v t clock r (mode-is full m n is x refl ∙ yes-cond _ f))
-          go true e false f = report e f _ refl _ refl
+          go : (s o : Bool) → eqb (x .reading .size .0) 0 ≡ o
+              → Well (looked n v t clock r (cond s (plaque (x .plaque .id) (x .plaque .length .0)) empty)
+              (cond o M.off (on (x .reading .start) (x .reading .size .0) (x .reading .delay) (reportOf (x .report)))))
+          go false o f = unchanged
+          go true true f = unchanged
+          go true false f =
+              let q = reading-range full (x .reading) (x .report .kept) (reader-parts full x orderly .reading) f in
+              let short = part-short (x .reading .start) (x .reading .start + x .reading .size .0) (r .region) in
+              cond-all Well (repeats (x .plaque .id) clock (x .reading .delay) (reportOf (x .report))) _ _ unchanged
+              (cond-all Well (leb (x .reading .start + x .reading .size .0) (x .plaque .length .0)) _ _ (
+                formed 0x0D _ (lit< tt) (omega arith),
+                changed _ (reported-ok full x orderly clock f) _
+                    (reported-means x (regionOf full (m .memory) n) clock f ∙ ap (setMode _) (sym same)),
+              )
+              tt)
 
   -- ---- at the gateway's own node
+  still : Some (fromDesk (idle (g .name)) g)
+  still = record { there = m; is = record { fit = ok; means = sym (same-desk g) } }
+
   module _ (t : Stamp) (good : isStamp t ≡ true) where
-    abbrev AtH : Local Desk → Type 0
-    AtH l = Can (settled full g (lifted fromDesk hub g l))
+    formed-hub : (y : M.Node) (echo : ℕ) (s : List ℕ) → echo < 256 → length s ≤ 255
+        → wellFormed full (nodeAt full (nodeSlot full hub)) (answer hub y t echo s) ≡ true
+    formed-hub y echo s h l = answer-formed full full-sound hub 16 (hub-index full) y t (node-hub full) good _ echo s refl h l
 
-    can-desk : (y : M.Node) (echo : ℕ) (s : List ℕ) (d : Desk) → echo < 256 → length s ≤ 255 → Some (fromDesk d g)
-        → AtH (Local.due d (answer hub y t echo s))
-    unfolding lifted
-    can-desk y echo s d h l k =
-        can-due hub (fromDesk d g) (answer hub y t echo s) (node-hub full)
-        (answer-formed full full-sound hub 16 (hub-index full) y t (node-hub full) good _ echo s refl h l) k
-
-    named : (s : List ℕ) → length s ≤ 64 → Some (fromDesk (idle s) g)
+    titled : (s : List ℕ) → length s ≤ 64 → Some (fromDesk (idle s) g)
     unfolding fromDesk swept nameOk
-    named s h =
+    titled s h =
         let name : Name = record { length = record { 0 = length s }; bytes = s ++ replicate (64 - length s) 0 } in
         let long : length (name .bytes) ≡ 64 =
         omega (arith, length-append s (replicate (64 - length s) 0), length-replicate {A = ℕ} (64 - length s) 0) in
@@ -316,32 +320,33 @@ module _ (m : Machine) (ok : unfit full m ≡ 0) where
         let l = leb-true (m .state .name .length .0) 64 (and-true (leb (m .state .name .length .0) 64) _ (p .name) .0) in
         omega (arith, length-take (m .state .name .length .0) (m .state .name .bytes))
 
-    can-rule : (k : OfGateway) (bs : List ℕ) → length bs ≤ 64 → AtH (ruled (g .nodes hub) (g .name) t k bs)
-    unfolding ruled fromDesk
-    can-rule GetName bs h =
-        can-desk (g .nodes hub) 0x11 (g .name) (idle (g .name)) (lit< tt) name-short
-        (record { there = m; is = record { fit = ok; means = sym (same-desk g) } })
-    can-rule SetName bs h = can-desk (g .nodes hub) 0x21 [] (idle bs) (lit< tt) (lit≤ tt) (named bs h)
-    can-rule Initialise bs h = can-desk (g .nodes hub) 0x60 [] (idle []) (lit< tt) (lit≤ tt) (named [] (lit≤ tt))
-    can-rule ResetGateway bs h =
-        can-desk (swept resetting (g .nodes hub)) 0x61 [] _ (lit< tt) (lit≤ tt) (record { there = _; is = restarted full m ok _ _ (Lists.resets full (m .store) (m .state) lists-ok _ (sym (parts full m ok .eachNode))) })
-    can-rule Clear bs h =
-        can-desk (swept clearing (g .nodes hub)) 0x79 [] _ (lit< tt) (lit≤ tt) (record { there = _; is = cleared full m ok _ _ (Lists.clears full (m .store) (m .state) lists-ok _ (sym (parts full m ok .eachNode))) })
+    good-ruled : (k : OfGateway) (bs : List ℕ) → length bs ≤ 64 → Good fromDesk hub (ruled (g .nodes hub) (g .name) t k bs)
+    unfolding ruled fromDesk Good
+    good-ruled GetName bs h = (formed-hub (g .nodes hub) 0x11 (g .name) (lit< tt) name-short, still)
+    good-ruled SetName bs h = (formed-hub (g .nodes hub) 0x21 [] (lit< tt) (lit≤ tt), titled bs h)
+    good-ruled Initialise bs h = (formed-hub (g .nodes hub) 0x60 [] (lit< tt) (lit≤ tt), titled [] (lit≤ tt))
+    good-ruled ResetGateway bs h =
+        let a = Lists.resets full (m .store) (m .state) lists-ok _ (sym (parts full m ok .eachNode)) in
+        (formed-hub (swept resetting (g .nodes hub)) 0x61 [] (lit< tt) (lit≤ tt), record { there = _; is = restarted full m ok _ _ a })
+    good-ruled Clear bs h =
+        let a = Lists.clears full (m .store) (m .state) lists-ok _ (sym (parts full m ok .eachNode)) in
+        (formed-hub (swept clearing (g .nodes hub)) 0x79 [] (lit< tt) (lit≤ tt), record { there = _; is = cleared full m ok _ _ a })
 
   -- ---- the calls
-  abbrev Ends : Call → Type 0
-  Ends c = (s : Said) × (m′ : Machine) × Obeyed full c m s m′
-
-  module _ (t : Stamp) (good : isStamp t ≡ true) (f : Form) (ws : List ℕ) (e : refusal (commandDoubts full f ws) ≡ 0) where
+  module _ (t : Stamp) (f : Form) (ws : List ℕ) (e : judged full (command t f ws) ≡ 0) where
     abbrev c : Command
     c = commandIn f ws
 
     abbrev bs : List ℕ
     bs = bytesIn full f ws
 
+    stamped : isStamp t ≡ true
+    unfolding judged asked
+    stamped = not-false _ (fine 3 _ refl (accepts _ _ e .0))
+
     read : readCommand full f ws ≡ R.Accepted c
-    unfolding readCommand commandResult commandIn
-    read = yes-cond _ (eq-eqb (refusal (commandDoubts full f ws)) 0 e)
+    unfolding judged asked readCommand commandResult commandIn
+    read = yes-cond _ (eq-eqb (refusal (commandDoubts full f ws)) 0 (accepts _ _ e .1))
 
     known : Accepted full (kindIn full f ws) c
     unfolding kindIn
@@ -362,79 +367,51 @@ module _ (m : Machine) (ok : unfit full m ≡ 0) where
     few ResetGateway a l = omega arith
     few Clear a l = omega arith
 
-    can-accepted : (k : Kind) → kindIn full f ws ≡ k → Accepted full k c → length bs ≡ carries (rowFor full k .load) (c .size)
-        → Ends (command t f ws)
-    unfolding suits governed
-    can-accepted (K.Plaque k) q a l =
-        let is = reader-suited full (c .node) (a .node) (a .suits) in
-        let d = can-tagged (c .node) is t good c bs k a l in
-        (d .said, d .after, reader-commanded full m ok t f ws good e q refl c refl is (d .does))
-    can-accepted K.Continuous q a l =
-        let is = reader-suited full (c .node) (a .node) (a .suits) in
-        let d = can-continuous (c .node) is t good c bs (reads full c a) in
-        (d .said, d .after, reader-commanded full m ok t f ws good e q refl c refl is (d .does))
-    can-accepted K.ResetReader q a l =
-        let is = reader-suited full (c .node) (a .node) (a .suits) in
-        let d = can-reset (c .node) is t good c bs in
-        (d .said, d .after, reader-commanded full m ok t f ws good e q refl c refl is (d .does))
-    can-accepted (K.Gateway k) q a l =
-        let d = can-rule t good k bs (few k a l) in
-        (d .said, d .after, hub-commanded full m ok t f ws good e q refl full-sound (eqb-true (c .node) hub (a .suits)) (d .does))
-    can-accepted K.Unknown q a l = absurd (false≢true (a .suits))
+    good-governed : (k : Kind) → Accepted full k c → length bs ≡ carries (rowFor full k .load) (c .size)
+        → Good fromDesk hub (governed (g .nodes hub) (g .name) t k bs)
+    unfolding governed Good
+    good-governed (K.Gateway k) a l = good-ruled t stamped k bs (few k a l)
+    good-governed (K.Plaque k) a l = tt
+    good-governed K.Continuous a l = tt
+    good-governed K.ResetReader a l = tt
+    good-governed K.Unknown a l = tt
 
-  can-command : (t : Stamp) (f : Form) (ws : List ℕ) (u : Bool) → isStamp t ≡ u → Ends (command t f ws)
-  can-command t f ws false e = (refused 3, m, commanded-3 full m ok t f ws e)
-  can-command t f ws true e = elim (ℕ-discrete (refusal (commandDoubts full f ws)) 0) [
-    | yes z ↦ can-accepted t e f ws z (kindIn full f ws) refl (known t e f ws z) (loaded t e f ws z)
-    | no d ↦ (refused (refusal (commandDoubts full f ws)), m, commanded-refused full m ok t f ws e _ refl d)
+  good-atReader : (c : Call) → judged full c ≡ 0 → isReader full (named c) ≡ true
+      → Good (setReader (named c)) (named c) (atReader full (named c) (g .nodes (named c)) (g .reader (named c)) c)
+  unfolding atReader judged asked named Good
+  good-atReader (command t f ws) e is =
+      good-obeyed _ is t (stamped t f ws e) (commandIn f ws) (bytesIn full f ws) (kindIn full f ws) (known t f ws e) (loaded t f ws e)
+  good-atReader (check n t clock) e is = good-looked n is t (not-false _ (fine 3 _ refl (accepts _ _ e .0))) clock
+  good-atReader (arrive n id s) e is =
+      let q = accepts _ _ (accepts _ _ e .1) in
+      let long = eqb-true (length id) 8 (not-false _ (fine 9 _ refl (q .0))) in
+      record { there = _; is = arrived-changed full m n ok id s is long (not-false _ (fine 10 _ refl (q .1))) _ refl _ refl }
+  good-atReader (leave n) e is = good-left n is (g .reader n .field)
+  good-atReader (collect f n room) e is = good-collecting (setReader n) n (g .reader n) (unchanged n is) f n room _ _
+  good-atReader (acknowledge n h) e is = good-acknowledging (setReader n) n (reader-node full n is) h
+
+  good-atHub : (c : Call) → judged full c ≡ 0 → Good fromDesk hub (atHub full (g .nodes hub) (g .name) c)
+  unfolding atHub Good
+  good-atHub (command t f ws) e = good-governed t f ws e (kindIn full f ws) (known t f ws e) (loaded t f ws e)
+  good-atHub (check n t clock) e = tt
+  good-atHub (arrive n id s) e = tt
+  good-atHub (leave n) e = tt
+  good-atHub (collect f n room) e = good-collecting fromDesk hub (idle (g .name)) still f hub room _ _
+  good-atHub (acknowledge n h) e = good-acknowledging fromDesk hub (node-hub full) h
+
+  can-heeded : (c : Call) → judged full c ≡ 0 → {v : Whom} → Aim full c v → Can (settled full g (heeded full g c v))
+  unfolding heeded
+  can-heeded c e (Aim.reader p) = can-local (setReader (named c)) (named c) (reader-node full (named c) p) _ (good-atReader c e p)
+  can-heeded c e (Aim.desk p q) = can-local fromDesk hub (node-hub full) _ (good-atHub c e)
+  can-heeded c e (Aim.nowhere p q) = absurd (never-nobody full c e p q)
+
+  can : (c : Call) → (s : Said) × (m′ : Machine) × Obeyed full c m s m′
+  can c = elim (ℕ-discrete (judged full c) 0) [
+    | yes e ↦
+        let d = can-heeded c e (aim full c) in
+        (d .said, d .after, by-step full m c ok (heeded-by full g c (whom full c) e refl) (d .does))
+    | no d ↦ (refused (judged full c), m, refused-by full m c ok _ refl d)
   ]
-
-  can-check : (n : ℕ) (t : Stamp) (clock : ℕ) (u : Bool) → isStamp t ≡ u → (w : Bool) → isReader full n ≡ w → Ends (check n t clock)
-  can-check n t clock false e w is = (refused 3, m, checked-3 full m ok n t clock e)
-  can-check n t clock true e false is = (refused 7, m, checked-7 full m ok n t clock e is)
-  can-check n t clock true e true is =
-      let d = can-look n is t e clock in (d .said, d .after, checked-by full m ok n t clock e is refl (d .does))
-
-  can-arrive : (n : ℕ) (id s : List ℕ) (u : Bool) → isReader full n ≡ u → (w : Bool) → within 1 1024 (length s) ≡ w → Ends (arrive n id s)
-  can-arrive n id s false is w i = (refused 7, m, arrived-7 full m n ok id s is)
-  can-arrive n id s true is w i = elim (ℕ-discrete (length id) 8) [
-    | yes e ↦ by e w i
-    | no d ↦ (refused 9, m, arrived-9 full m n ok id s is d)
-  ]
-    where
-      by : length id ≡ 8 → (w : Bool) → within 1 1024 (length s) ≡ w → Ends (arrive n id s)
-      by e true i = (answered done, _, arrived-0 full m n ok id s is e i _ refl _ refl)
-      by e false i = (refused 10, m, arrived-10 full m n ok id s is e i)
-
-  can-leave : (n : ℕ) (u : Bool) → isReader full n ≡ u
-      → (w : Bool) → getD (m .state .readers) (n - 1) freshReader .plaque .present ≡ w → Ends (leave n)
-  can-leave n false is w e = (refused 7, m, left-7 full m n ok is)
-  can-leave n true is false e = (refused 14, m, left-14 full m n ok is _ refl e)
-  can-leave n true is true e = (answered done, _, left-0 full m n ok is _ refl e)
-
-  can-acknowledge : (n h : ℕ) (u : Bool) → isNode full n ≡ u → Ends (acknowledge n h)
-  can-acknowledge n h false is = (refused 7, m, acked-7 full m ok n h is)
-  can-acknowledge n h true is =
-      let y : Node = getD (m .state .nodes) (nodeSlot full n) freshNode in
-      elim (ℕ-discrete (y .answers) 0) [
-        | yes z ↦ (refused 14, m, acked-14 full m ok n h (nodeSlot full n) is refl y refl z)
-        | no d ↦ elim (ℕ-discrete h (y .handover)) [
-          | yes e ↦ (
-            answered done,
-            _,
-            acked-0 full m ok n h (nodeSlot full n) is refl y refl (omega arith) e _ _ (takes full m ok n (nodeSlot full n) is refl y refl (omega arith) .after),
-          )
-          | no f ↦ (refused 15, m, acked-15 full m ok n h (nodeSlot full n) is refl y refl (omega arith) f)
-        ]
-      ]
-
-  can : (c : Call) → Ends c
-  can (command t f ws) = can-command t f ws (isStamp t) refl
-  can (check n t clock) = can-check n t clock (isStamp t) refl (isReader full n) refl
-  can (arrive n id s) = can-arrive n id s (isReader full n) refl (within 1 1024 (length s)) refl
-  can (leave n) = can-leave n (isReader full n) refl (getD (m .state .readers) (n - 1) freshReader .plaque .present) refl
-  can (collect f n k) = (expected full (collect f n k) m .said, m, collect-obeyed full m f n k)
-  can (acknowledge n h) = can-acknowledge n h (isNode full n) refl
 
 -- ---- on any machine, any call has an outcome as promised ..
 pub possible : (c : Call) (m : Machine) → (s : Said) × (m′ : Machine) × Obeyed full c m s m′

@@ -1,15 +1,9 @@
 -- How a promise is kept: once for every call. What is lent is at fault; the meaning refuses; the meaning says something else.
 -- Assumes nothing.
-use Prim.Native.Nat.{ℕ}
-use mathlib.Core.Path.{_≡_, refl, sym, ap, _∙_, subst}
-use mathlib.Core.Bool.{true, false, true≢false}
-use borrow.Author.Tests.{eq-eqb, ne-eqb}
-use Rattle.units.proofs.Choice.{yes-cond, no-cond}
-use Rattle.meaning.specs.Bench.{Bench, hub}
-use Rattle.meaning.specs.Gateway.{Reader, Gateway, setReader}
-use Rattle.meaning.specs.Call.{Call, Said, refused, answered, Result, Outcome, Local, Desk, fromDesk, lifted, settled, step}
-use Rattle.state.specs.Machine.{Machine, meaning}
-use Rattle.state.specs.Consistent.{unfit}
+use Rattle.units.proofs.Common.{sym, _∙_, _≡_, refl, false, true≢false, ℕ, eq-eqb, ne-eqb}
+use Rattle.meaning.proofs.Terms.{Bench, hub, Reader, Gateway, setReader, Call, Said, refused, answered, Result, Outcome, Local, Desk}
+use Rattle.meaning.proofs.Terms.{fromDesk, lifted, settled, step}
+use Rattle.state.proofs.Terms.{Machine, meaning, unfit}
 use Rattle.promise.specs.Obeyed.{turned, Does, expected, Obeyed}
 use Rattle.promise.proofs.Parts.{Means}
 
@@ -33,21 +27,19 @@ module _ (b : Bench) (m : Machine) where
   -- ---- a call: what is lent is at fault ..
   pub unlent : (c : Call) (k : ℕ) → unfit b m ≡ k → (k ≡ 0 → ⊥) → Obeyed b c m (refused k) m
   unfolding expected
-  unlent c k e n =
-      let o : expected b c m ≡ saying (refused k) (meaning b m) =
-      no-cond _ (ne-eqb (unfit b m) 0 (λ z. n (sym e ∙ z))) ∙ ap (λ (j : ℕ). saying (refused j) (meaning b m)) e in
-      subst (λ (o : Outcome). Does b o m (refused k) m) (sym o) (does-refused k)
+  unlent c k e n = rw (ne-eqb (unfit b m) 0 (λ z. n (sym e ∙ z)), e) (does-refused k)
 
   -- .. or it is not, and the promise is of the meaning's step
   module _ (c : Call) (fit : unfit b m ≡ 0) where
     pub by-step : {o : Outcome} {s : Said} {m′ : Machine} → step b (meaning b m) c ≡ o → Does b o m s m′ → Obeyed b c m s m′
     unfolding expected
-    by-step {s = s} {m′ = m′} e d = subst (λ (o : Outcome). Does b o m s m′) (sym (yes-cond _ (eq-eqb _ _ fit) ∙ e)) d
+    by-step e d = rw (eq-eqb (unfit b m) 0 fit, e) d
 
     pub turning : (k : ℕ) → step b (meaning b m) c ≡ saying (refused k) (meaning b m) → Obeyed b c m (refused k) m
     turning k e = by-step e (does-refused k)
 
-    pub obeying : (s : Said) (g : Gateway) (m′ : Machine) → turned s ≡ false → step b (meaning b m) c ≡ saying s g → Means b m′ g → Obeyed b c m s m′
+    pub obeying : (s : Said) (g : Gateway) (m′ : Machine) → turned s ≡ false → step b (meaning b m) c ≡ saying s g → Means b m′ g → Obeyed b
+        c m s m′
     obeying s g m′ t e h = by-step e (does-said s g m′ t h)
 
 -- ---- what its own node makes of a call: l, at node n, where `into` puts the changed part back
@@ -65,9 +57,9 @@ AtHub b m l s m′ = Locally b m fromDesk hub l s m′
 module _ {A : Type 0} (b : Bench) (m : Machine) (into : A → Gateway → Gateway) (n : ℕ) {l : Local A} where
   pub refusing : {k : ℕ} → l ≡ Local.refuse k → Locally b m into n l (refused k) m
   unfolding lifted settled
-  refusing {k} e = subst (λ (l : Local A). Locally b m into n l (refused k) m) (sym e) (does-refused b m k)
+  refusing {k} e = rw e (does-refused b m k)
 
-  pub giving : {r : Result} {a : A} → l ≡ Local.give r a → (m′ : Machine) → Means b m′ (into a (meaning b m)) → Locally b m into n l (answered r) m′
+  pub giving : {r : Result} {a : A} → l ≡ Local.give r a → (m′ : Machine) → Means b m′ (into a (meaning b m)) → Locally b m into n l
+      (answered r) m′
   unfolding lifted settled turned
-  giving {r} {a} e m′ h =
-      subst (λ (l : Local A). Locally b m into n l (answered r) m′) (sym e) (does-said b m (answered r) (into a (meaning b m)) m′ refl h)
+  giving {r} {a} e m′ h = rw e (does-said b m (answered r) (into a (meaning b m)) m′ refl h)

@@ -1,22 +1,15 @@
 -- One reader changed, with its region; and the changes that the calls make.
 -- Assumes nothing.
-use Prim.Native.Nat.{ℕ, _+_, _-_, _≤_}
-use mathlib.Core.Path.{_≡_, refl, sym, ap, _∙_, fun-ext}
-use mathlib.Core.Bool.{Bool, true, false, cond}
-use mathlib.Core.List.{List}
-use native.Mathlib.Omega.{arith}
-use lib.Dec.{leb, eqb}
-use lib.ListN.{length, getD, take, set, length-set}
-use borrow.Author.Tests.{eqb-true, eqb-false, eq-eqb, leb-true, le-leb}
-use Rattle.units.specs.Count.{every}
+use Rattle.units.proofs.Common.{needs, sym, _∙_, _≡_, refl, ap, fun-ext, true, false, Bool, cond, List, ℕ, _≤_, _-_, _+_, arith, eqb, leb}
+use Rattle.units.proofs.Common.{length, getD, set, length-set, eq-eqb, le-leb, eqb-true, leb-true, eqb-false, every, and-true, yes-cond}
+use Rattle.units.proofs.Common.{no-cond}
 use Rattle.units.specs.declared.Bytes.{Bytes}
-use Rattle.units.proofs.Choice.{and-true, yes-cond, no-cond}
-use Rattle.meaning.specs.Bench.{Bench, isReader}
+use Rattle.meaning.proofs.Terms.{Bench, isReader, plaque, last, on, put, setReader, setMode}
 use Rattle.meaning.specs.Gateway as M
-use Rattle.meaning.specs.Gateway.{Mode, empty, plaque, never, last, on, put, setReader, setField, setMode}
-use Rattle.state.specs.State.{freshReader, noPlaque, off, noReport}
-use Rattle.state.specs.Machine.{Machine, machine, meaning, seen, readerSlot, nodesOf, readersOf, readerOf, fieldOf, modeOf, reportOf, regionOf}
-use Rattle.state.specs.Consistent.{plaqueOk, readingOk, reportOk, readerOk, unfit}
+use Rattle.state.proofs.Terms.{freshReader, noPlaque, noReport, Machine, machine, meaning, seen, readersOf, readerOf, fieldOf, modeOf}
+use Rattle.state.proofs.Terms.{reportOf, regionOf, plaqueOk, readingOk, reportOk, readerOk, unfit}
+use Rattle.state.specs.State.{off}
+use Rattle.state.specs.Machine.{readerSlot}
 use Rattle.state.specs.declared.reader.Plaque.{Plaque}
 use Rattle.state.specs.declared.reader.Reading.{Reading}
 use Rattle.state.specs.declared.reader.Report.{Report}
@@ -32,75 +25,68 @@ abbrev pub withReader : State → ℕ → Reader → State
 withReader s i x = record { name = s .name; readers = set (s .readers) i x; nodes = s .nodes; held = s .held }
 
 -- ---- what the machine means at reader n
-module _ (b : Bench) (m : Machine) (n : ℕ) (is : isReader b n ≡ true) (x : Reader) (at : getD (m .state .readers) (n - 1) freshReader ≡ x) where
-  pub reader-is : meaning b m .reader n ≡ readerOf x (regionOf b (m .memory) n)
-  reader-is = reader-at b m n is ∙ ap (λ y. readerOf y (regionOf b (m .memory) n)) at
+module _ (b : Bench) (m : Machine) (n : ℕ) (is : isReader b n ≡ true) (x : Reader) (at : getD (m .state .readers) (n - 1) freshReader ≡ x)
+  where
+    pub reader-is : meaning b m .reader n ≡ readerOf x (regionOf b (m .memory) n)
+    reader-is = reader-at b m n is ∙ ap (λ y. readerOf y (regionOf b (m .memory) n)) at
 
-  pub field-is : meaning b m .reader n .field ≡ fieldOf (x .plaque)
-  unfolding readerOf
-  field-is = ap (λ (r : M.Reader). r .field) reader-is
+    pub field-is : meaning b m .reader n .field ≡ fieldOf (x .plaque)
+    unfolding readerOf
+    field-is = ap (λ (r : M.Reader). r .field) reader-is
 
-  pub mode-is : meaning b m .reader n .mode ≡ modeOf (x .reading) (x .report)
-  unfolding readerOf
-  mode-is = ap (λ (r : M.Reader). r .mode) reader-is
+    pub mode-is : meaning b m .reader n .mode ≡ modeOf (x .reading) (x .report)
+    unfolding readerOf
+    mode-is = ap (λ (r : M.Reader). r .mode) reader-is
 
-  pub reader-in-order : Parts b m → readerOk b x ≡ true
-  reader-in-order p =
-      ap (readerOk b) (sym at)
-      ∙ every-get (readerOk b) (m .state .readers) (n - 1) freshReader (p .readers) (omega (arith, p .eachReader, reader-range b n is))
+    pub reader-in-order : Parts b m → readerOk b x ≡ true
+    reader-in-order p =
+        ap (readerOk b) (sym at)
+        ∙ every-get (readerOk b) (m .state .readers) (n - 1) freshReader (p .readers) (omega (arith, p .eachReader, reader-range b n is))
 
 -- ---- a reader replaced, and nothing else but in its region
 put-readers : (b : Bench) (memory memory′ : List ℕ) (n : ℕ) (x : Reader) (f : ℕ → Reader) → Within b n memory memory′ → (k : ℕ)
-    → readerOf (put n x f k) (regionOf b memory′ k) ≡ put n (readerOf x (regionOf b memory′ n)) (λ j. readerOf (f j) (regionOf b memory j)) k
+    → readerOf (put n x f k) (regionOf b memory′ k) ≡ put n (readerOf x (regionOf b memory′ n)) (λ j. readerOf (f j) (regionOf b memory j))
+    k
 unfolding put
 put-readers b memory memory′ n x f h k = go (eqb k n) refl
   where
     go : (t : Bool) → eqb k n ≡ t
-        → readerOf (cond t x (f k)) (regionOf b memory′ k) ≡ cond t (readerOf x (regionOf b memory′ n)) (readerOf (f k) (regionOf b memory k))
+        → readerOf (cond t x (f k)) (regionOf b memory′ k) ≡ cond t (readerOf x (regionOf b memory′ n))
+        (readerOf (f k) (regionOf b memory k))
     go true e = rw (eqb-true k n e)
     go false e = rw (h .others k (eqb-false k n e))
 
-module _ (b : Bench) (m : Machine) (n : ℕ) (is : isReader b n ≡ true) (x : Reader) (memory′ : List ℕ) (h : Within b n (m .memory) memory′) where
-  readers-set : Parts b m → readersOf b memory′ (set (m .state .readers) (n - 1) x)
-      ≡ put n (readerOf x (regionOf b memory′ n)) (readersOf b (m .memory) (m .state .readers))
-  unfolding readersOf
-  readers-set p =
-      let rs : List Reader = m .state .readers in
-      let e : seen (isReader b) readerSlot freshReader (set rs (n - 1) x) ≡ put n x (seen (isReader b) readerSlot freshReader rs) =
-      seen-set (isReader b) readerSlot freshReader rs n x is (omega (arith, p .eachReader, reader-range b n is)) (λ k q r. reader-inj b k n is q r) in
-      fun-ext (λ k. ap (λ (f : ℕ → Reader). readerOf (f k) (regionOf b memory′ k)) e
-      ∙ put-readers b (m .memory) memory′ n x (seen (isReader b) readerSlot freshReader rs) h k)
+module _ (b : Bench) (m : Machine) (n : ℕ) (is : isReader b n ≡ true) (x : Reader) (memory′ : List ℕ) (h : Within b n (m .memory) memory′)
+  where
+    readers-set : Parts b m → readersOf b memory′ (set (m .state .readers) (n - 1) x)
+        ≡ put n (readerOf x (regionOf b memory′ n)) (readersOf b (m .memory) (m .state .readers))
+    unfolding readersOf
+    readers-set p =
+        let rs : List Reader = m .state .readers in
+        let e : seen (isReader b) readerSlot freshReader (set rs (n - 1) x) ≡ put n x (seen (isReader b) readerSlot freshReader rs) =
+        seen-set (isReader b) readerSlot freshReader rs n x is (omega (arith, p .eachReader, reader-range b n is))
+        (λ k q r. reader-inj b k n is q r) in
+        fun-ext (λ k. rw e (put-readers b (m .memory) memory′ n x (seen (isReader b) readerSlot freshReader rs) h k))
 
-  pub reader-means : Parts b m
-      → meaning b (machine (withReader (m .state) (n - 1) x) (m .store) memory′) ≡ setReader n (readerOf x (regionOf b memory′ n)) (meaning b m)
-  unfolding meaning
-  reader-means p =
-      ap (λ (f : ℕ → M.Reader). record {
-        name = take (m .state .name .length .0) (m .state .name .bytes);
-        nodes = nodesOf b (m .store) (m .state .nodes);
-        reader = f;
-      })
-      (readers-set p)
+    pub reader-means : Parts b m
+        → meaning b (machine (withReader (m .state) (n - 1) x) (m .store) memory′) ≡ setReader n (readerOf x (regionOf b memory′ n))
+        (meaning b m)
+    unfolding meaning
+    reader-means p =
+        rw (readers-set p)
 
-  pub reader-fit : Parts b m → readerOk b x ≡ true → Parts b (machine (withReader (m .state) (n - 1) x) (m .store) memory′)
-  reader-fit p o = record {
-    store = p .store;
-    memory = h .long ∙ p .memory;
-    lists = p .lists;
-    nodes = p .nodes;
-    readers = every-set (readerOk b) (m .state .readers) (n - 1) x (p .readers) o;
-    name = p .name;
-    wide = p .wide;
-    eachReader = length-set (m .state .readers) (n - 1) x ∙ p .eachReader;
-    eachNode = p .eachNode;
-    eachHeld = p .eachHeld;
-  }
+    pub reader-fit : Parts b m → readerOk b x ≡ true → Parts b (machine (withReader (m .state) (n - 1) x) (m .store) memory′)
+    reader-fit p o =
+        let memory = h .long ∙ p .memory in
+        let readers = every-set (readerOk b) (m .state .readers) (n - 1) x (p .readers) o in
+        let each = length-set (m .state .readers) (n - 1) x ∙ p .eachReader in
+        search needs
 
-  pub reader-changed : unfit b m ≡ 0 → readerOk b x ≡ true → (r : M.Reader) → readerOf x (regionOf b memory′ n) ≡ r
-      → Means b (machine (withReader (m .state) (n - 1) x) (m .store) memory′) (setReader n r (meaning b m))
-  reader-changed u o r e =
-      let p = parts b m u in
-      record { fit = fit b _ (reader-fit p o); means = reader-means p ∙ ap (λ y. setReader n y (meaning b m)) e }
+    pub reader-changed : unfit b m ≡ 0 → readerOk b x ≡ true → (r : M.Reader) → readerOf x (regionOf b memory′ n) ≡ r
+        → Means b (machine (withReader (m .state) (n - 1) x) (m .store) memory′) (setReader n r (meaning b m))
+    reader-changed u o r e =
+        let p = parts b m u in
+        record { fit = fit b _ (reader-fit p o); means = reader-means p ∙ ap (λ y. setReader n y (meaning b m)) e }
 
 -- ---- a reader in order, part by part
 pub record ReaderParts (b : Bench) (x : Reader) : Type 0 where
@@ -157,7 +143,8 @@ module _ (b : Bench) (x : Reader) (o : readerOk b x ≡ true) where
   unfolding plaqueOk
   arrived-ok id n e l h =
       let p = reader-parts b x o in
-      reader-whole b _ (record { plaque = both (eq-eqb _ _ e) (both (le-leb _ _ l) (le-leb _ _ h)); reading = p .reading; report = p .report })
+      reader-whole b _
+      (record { plaque = both (eq-eqb _ _ e) (both (le-leb _ _ l) (le-leb _ _ h)); reading = p .reading; report = p .report })
 
   pub stopped-ok : readerOk b (withReading x off noReport) ≡ true
   unfolding readingOk reportOk every
@@ -185,26 +172,8 @@ module _ (b : Bench) (x : Reader) (o : readerOk b x ≡ true) where
       })
 
 module _ (x : Reader) (region : List ℕ) where
-  pub left-means : readerOf (withPlaque x noPlaque) region ≡ setField empty (readerOf x region)
-  unfolding readerOf fieldOf
-  left-means = refl
-
-  pub arrived-means : (id : List ℕ) (n : Bytes) (region′ : List ℕ) → readerOf (withPlaque x (record { present = true; id = id; length = n })) region′
-      ≡ record { field = plaque id (n .0); mode = readerOf x region .mode; region = region′ }
-  unfolding readerOf fieldOf
-  arrived-means id n region′ = refl
-
-  pub stopped-means : readerOf (withReading x off noReport) region ≡ setMode M.off (readerOf x region)
-  unfolding readerOf modeOf
-  stopped-means = refl
-
-  pub started-means : (r : Reading) → eqb (r .size .0) 0 ≡ false
-      → readerOf (withReading x r noReport) region ≡ setMode (on (r .start) (r .size .0) (r .delay) never) (readerOf x region)
-  unfolding readerOf modeOf reportOf
-  started-means r e = ap (λ (k : Mode). record { field = fieldOf (x .plaque); mode = k; region = region }) (no-cond M.off e)
-
   pub reported-means : (clock : ℕ) → eqb (x .reading .size .0) 0 ≡ false
       → readerOf (withReading x (x .reading) (record { kept = true; id = x .plaque .id; clock = clock })) region
       ≡ setMode (on (x .reading .start) (x .reading .size .0) (x .reading .delay) (last (x .plaque .id) clock)) (readerOf x region)
   unfolding readerOf modeOf reportOf
-  reported-means clock e = ap (λ (k : Mode). record { field = fieldOf (x .plaque); mode = k; region = region }) (no-cond M.off e)
+  reported-means clock e = rw e

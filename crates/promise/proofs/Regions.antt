@@ -1,16 +1,12 @@
 -- Writing into one reader's region of the plaque memory.
 -- Assumes nothing.
-use Prim.Native.Nat.{ℕ, zero, suc, _+_, _-_, _*_, _≤_, _<_, min}
-use mathlib.Core.Path.{_≡_, refl, sym, ap, _∙_, subst}
-use mathlib.Core.Logic.{_⊎_, inl, inr}
-use mathlib.Core.Bool.{true}
-use mathlib.Core.List.{List, _++_, append-assoc}
-use native.Mathlib.Omega.{arith}
+use Rattle.units.proofs.Common.{sym, _∙_, _≡_, refl, ap, subst, inl, inr, _⊎_, true, List, _++_, append-assoc, ℕ, _≤_, _-_, _+_, _<_, suc}
+use Rattle.units.proofs.Common.{_*_, zero, min, arith, length, drop, getD, take, length-drop, length-take, List·getD-append, length-take-le}
+use Rattle.units.proofs.Common.{getD-drop, paste, slice, getD-take, ext-getD, getD-append-add}
 use native.Mathlib.Nat.{mul-le-mul-right}
-use lib.ListN.{length, getD, take, drop, length-drop, length-take, List·getD-append}
-use lib.Seq.{paste, slice, length-slice, length-paste, length-paste-head, length-take-le, ext-getD, getD-take, getD-drop, getD-append-add}
-use Rattle.meaning.specs.Bench.{Bench, isReader}
-use Rattle.state.specs.Machine.{regionOf}
+use lib.Seq.{length-slice, length-paste, length-paste-head}
+use Rattle.meaning.proofs.Terms.{Bench, isReader}
+use Rattle.state.proofs.Terms.{regionOf}
 use Rattle.state.proofs.Lists.{below-or}
 use Rattle.promise.proofs.Tables.{reader-range}
 
@@ -56,8 +52,10 @@ module _ (d : List ℕ) (a r start : ℕ) (s : List ℕ) (k : ℕ) (inside : a +
   -- in the part that it lies in
   part-own : slice a (a + r) after ≡ paste (slice a (a + r) d) start s k
   part-own =
-      ext-getD 0 (slice a (a + r) after) (paste (slice a (a + r) d) start s k) (own ∙ sym (length-paste (slice a (a + r) d) start s k (omega (arith, old)) has ∙ old))
-      (λ i h. let h′ : i < r = omega (arith, own) in part-at after a (a + r) i (omega arith) ∙ each i h′ (below-or i start) (below-or i (start + k)))
+      ext-getD 0 (slice a (a + r) after) (paste (slice a (a + r) d) start s k)
+      (own ∙ sym (length-paste (slice a (a + r) d) start s k (omega (arith, old)) has ∙ old))
+      (λ i h. let h′ : i < r = omega (arith, own) in part-at after a (a + r) i (omega arith) ∙ each i h′ (below-or i start)
+      (below-or i (start + k)))
     where
       old : length (slice a (a + r) d) ≡ r
       old = length-slice a (a + r) d inside ∙ omega arith
@@ -75,7 +73,8 @@ module _ (d : List ℕ) (a r start : ℕ) (s : List ℕ) (k : ℕ) (inside : a +
           let f : start + (i - start) ≡ i = omega arith in
           let j : i - start < k = omega arith in
           ap (λ t. getD after t 0) (sym e) ∙ paste-inside d (a + start) s k (omega arith) has (i - start) j
-          ∙ sym (ap (λ t. getD (paste (slice a (a + r) d) start s k) t 0) (sym f) ∙ paste-inside (slice a (a + r) d) start s k (omega (arith, old)) has (i - start) j)
+          ∙ sym (ap (λ t. getD (paste (slice a (a + r) d) start s k) t 0) (sym f) ∙ paste-inside (slice a (a + r) d) start s k
+          (omega (arith, old)) has (i - start) j)
       each i h (inr p) (inr q) =
           paste-after d (a + start) s k (omega arith) has (a + i) (omega arith)
           ∙ sym (paste-after (slice a (a + r) d) start s k (omega (arith, old)) has i q ∙ part-at d a (a + r) i (omega arith))
@@ -135,7 +134,8 @@ module _ (b : Bench) (n : ℕ) (memory : List ℕ) (is : isReader b n ≡ true) 
     pub region-other : (j : ℕ) → (j ≡ n → ⊥) → regionOf b (paste memory ((n - 1) * b .region + start) s k) j ≡ regionOf b memory j
     unfolding regionOf
     region-other j d =
-        part-other memory ((n - 1) * b .region) (b .region) start s k (row .1) fits has ((j - 1) * b .region) (j * b .region) (go (apart j n d))
+        part-other memory ((n - 1) * b .region) (b .region) start s k (row .1) fits has ((j - 1) * b .region) (j * b .region)
+        (go (apart j n d))
       where
         go : (j < n) ⊎ (n < j) → (j * b .region ≤ (n - 1) * b .region) ⊎ ((n - 1) * b .region + b .region ≤ (j - 1) * b .region)
         go (inl h) = inl (mul-le-mul-right (b .region) (omega arith))

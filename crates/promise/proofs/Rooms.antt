@@ -1,26 +1,15 @@
 -- An answer joins: its room, as the meaning judges it and as the code does over the held words; and what the machine means after.
 -- Assumes nothing.
-use Prim.Native.Nat.{ℕ, zero, suc, _+_, _-_, _≤_, max}
-use mathlib.Core.Path.{_≡_, refl, sym, ap, _∙_, subst}
-use mathlib.Core.Bool.{Bool, true, false, _&&_}
-use mathlib.Core.List.{List, [], _∷_, map}
-use native.Mathlib.Omega.{arith}
-use lib.Dec.{leb}
-use lib.ListN.{length, getD, take, set, length-map, length-set, List·getD-map}
-use lib.Seq.{take-all}
-use borrow.Author.Tests.{le-leb, leb-true}
-use Rattle.units.specs.Count.{every}
-use Rattle.units.proofs.Choice.{yes-cond, no-cond, and-true}
-use Rattle.meaning.specs.Bench.{Bench, hub, isReader, isNode}
-use Rattle.meaning.specs.Packet.{wordNo}
+use Rattle.units.proofs.Common.{sym, _∙_, _≡_, refl, ap, true, false, Bool, List, [], map, ℕ, _≤_, _-_, _+_, suc, zero, max, arith, leb}
+use Rattle.units.proofs.Common.{length, getD, take, set, length-set, length-map, List·getD-map, take-all, le-leb, leb-true, every, no-cond}
+use Rattle.units.proofs.Common.{and-true}
+use Rattle.meaning.proofs.Terms.{Bench, hub, isReader, isNode, wordNo, Gateway, joined, join, added, held, shareOf, charges, fits}
 use Rattle.meaning.specs.Gateway as M
-use Rattle.meaning.specs.Gateway.{Gateway, joined, join}
-use Rattle.meaning.specs.Room.{added, held, shareOf, charge, total, charges, fits}
+use Rattle.meaning.specs.Room.{charge, total}
 use Rattle.demands.specs.Sound.{Sound}
 use Rattle.demands.specs.Demand.{Bounds}
 use Rattle.demands.proofs.Room.{put-same, held-joined}
-use Rattle.state.specs.Machine.{Machine, machine, meaning, seen, nodeSlot, nodesIn, nodesOf, plain}
-use Rattle.state.specs.Consistent.{counts, chargesOf, bounded, unfit}
+use Rattle.state.proofs.Terms.{Machine, machine, meaning, seen, nodeSlot, nodesIn, nodesOf, plain, counts, chargesOf, bounded, unfit}
 use Rattle.state.specs.declared.State.{State}
 use Rattle.state.proofs.Lists.{both, map-set, every-get}
 use Rattle.state.proofs.Read.{packed-of}
@@ -59,9 +48,8 @@ module _ (b : Bench) (ok : Sound b) (g : Gateway) (ns : List M.Node) (long : len
   charge-at : (k : ℕ) → isNode b k ≡ true → charge b (g .nodes k) ≡ max (b .share) (getD helds (nodeSlot b k) 0)
   unfolding charge shareOf seen added
   charge-at k p =
-      ap (λ (f : ℕ → M.Node). max (b .share) (held (f k))) table
-      ∙ ap (λ (x : M.Node). max (b .share) (held x)) (yes-cond plain p)
-      ∙ ap (max (b .share)) (sym (List·getD-map held ns (nodeSlot b k) plain))
+      let e : getD helds (nodeSlot b k) 0 ≡ held (getD ns (nodeSlot b k) plain) = List·getD-map held ns (nodeSlot b k) plain in
+      rw (table, p, e)
 
   charges-table : charges b g ≡ chargesOf (b .share) helds
   unfolding charges
@@ -106,13 +94,12 @@ module _ (b : Bench) (m : Machine) (n : ℕ) (w : List ℕ) (is : isNode b n ≡
   room-same ok e =
       let y : M.Node = joined w (meaning b m .nodes n) in
       let a : held y ≡ getD hs i 0 + length w =
-      held-joined w (meaning b m .nodes n) ∙ ap (λ (k : ℕ). held (meaning b m .nodes n) + k) e ∙ ap (λ (k : ℕ). k + length w) held-in in
+      cc (held-joined w (meaning b m .nodes n), held-in) in
       let c : charges b (join n w (meaning b m)) ≡ chargesOf (b .share) (set hs i (getD hs i 0 + length w)) =
       charges-table b ok (join n w (meaning b m)) (set ns i y) (length-set ns i y ∙ many b m p) join-table
       ∙ ap (chargesOf (b .share)) (map-set held ns i y ∙ ap (λ (l : List ℕ). set l i (held y)) (sym helds-are) ∙ ap (set hs i) a) in
       let d : held ((join n w (meaning b m)) .nodes n) ≡ getD hs i 0 + length w = ap held (put-same n y (meaning b m .nodes)) ∙ a in
-      ap (λ (k : ℕ). leb k (b .limit) && leb (charges b (join n w (meaning b m))) (b .store)) d
-      ∙ ap (λ (k : ℕ). leb (getD hs i 0 + length w) (b .limit) && leb k (b .store)) c
+      rw (d, c)
 
   -- an answer that the code added is an answer joined
   pub added-changed : (store′ : List ℕ) (s′ : State) → Listed b (m .store) store′ (m .state) s′ (joinedAt ns (nodeSlot b n) w)
@@ -121,8 +108,7 @@ module _ (b : Bench) (m : Machine) (n : ℕ) (w : List ℕ) (is : isNode b n ≡
   added-changed store′ s′ a =
       let h : numbered (meaning b m .nodes n) ≡ true =
       ap numbered (node-at b m n is) ∙ every-get numbered ns i plain (all-numbered b m p) (node-inside b n (length ns) is (many b m p)) in
-      node-changed b m p n is (joined w (meaning b m .nodes n)) h store′ s′
-      (subst (λ (x : M.Node). Listed b (m .store) store′ (m .state) s′ (set ns i (joined w x))) (sym (node-at b m n is)) a)
+      node-changed b m p n is (joined w (meaning b m .nodes n)) h store′ s′ (rw (node-at b m n is) a)
 
 -- ---- a consistent machine means a gateway that keeps both bounds
 module _ (b : Bench) (ok : Sound b) (m : Machine) (fits : unfit b m ≡ 0) where
@@ -143,8 +129,8 @@ module _ (b : Bench) (ok : Sound b) (m : Machine) (fits : unfit b m ≡ 0) where
           let o = and-true (every (λ h. leb h (b .limit)) hs) _ limits in
           let i : ℕ = nodeSlot b n in
           let k = every-get (λ h. leb h (b .limit)) hs i 0 (o .0) (node-inside b n (length hs) is l) in
-          let e : held (meaning b m .nodes n) ≡ getD hs i 0 = held-in b m n [] is p ∙ ap (λ (l : List ℕ). getD l i 0) (helds-are b m n [] is p) in
-          omega (arith, e, leb-true (getD hs i 0) (b .limit) k)
+          let e : held (meaning b m .nodes n) ≡ getD hs i 0 = cc (held-in b m n [] is p, helds-are b m n [] is p) in
+          omega (arith, leb-true (getD hs i 0) (b .limit) k)
       go false is = omega (arith, ap held (no-cond {b = plain} (getD (nodesIn (m .store) (m .state .nodes)) (nodeSlot b n) plain) is))
 
   pub fit-bounds : Bounds b (meaning b m)

@@ -1,16 +1,13 @@
 -- Each of the sixteen numbers is given for some input, and 1 and 2 come before all others; the checker computes them.
 -- Assumes nothing.
-use Prim.Native.Nat.{ℕ}
-use mathlib.Core.Path.{_≡_, refl}
-use mathlib.Core.List.{[], _∷_, map}
-use lib.ListN.{replicate}
-use Rattle.meaning.specs.Call.{refused}
+use Rattle.units.proofs.Common.{_≡_, refl, [], _∷_, map, ℕ, replicate}
+use Rattle.meaning.proofs.Terms.{refused}
 use Rattle.meaning.specs.CasesOfCalls.{idA}
 use Rattle.meaning.proofs.Opened.{calls, responseRead}
-use Rattle.state.specs.Layout.{laid, allLaid, storeOf, cuts, past}
-use Rattle.state.specs.Machine.{nodesIn, fieldOf, reportOf, modeOf, regionOf, readerOf, seen, nodesOf, readersOf, meaning}
-use Rattle.state.specs.Consistent.{inLayout, formed, chargesOf, bounded, listed, listsOk, nodeOk, plaqueOk, readingOk, reportOk, readerOk}
-use Rattle.state.specs.Consistent.{nameOk, arrays, consistent, lengths, lent, unfit}
+use Rattle.state.proofs.Terms.{laid, allLaid, storeOf, cuts, past, nodesIn, fieldOf, reportOf, modeOf, regionOf, readerOf, seen, nodesOf}
+use Rattle.state.proofs.Terms.{readersOf, meaning, formed, chargesOf, bounded, listsOk, nodeOk, plaqueOk, readingOk, reportOk, readerOk}
+use Rattle.state.proofs.Terms.{nameOk, arrays, consistent, lengths, lent, unfit}
+use Rattle.state.specs.Consistent.{inLayout, listed}
 use Rattle.promise.specs.Obeyed.{expected}
 use Rattle.promise.specs.Sixteen.{answer, short, unnumbered, idle, sixteen, hasty, saidOn}
 

@@ -1,12 +1,8 @@
 -- All lists emptied, as 79 does and 61, which also starts the instance counts again.
 -- Assumes nothing.
-use Prim.Native.Nat.{ℕ}
-use mathlib.Core.Path.{_≡_, refl}
-use mathlib.Core.List.{List, map}
-use Rattle.meaning.specs.Bench.{Bench}
-use Rattle.meaning.specs.Gateway.{clearing, resetting, emptied, swept, sweep}
-use Rattle.state.specs.Machine.{Machine, machine, meaning, nodesIn}
-use Rattle.state.specs.Consistent.{unfit}
+use Rattle.units.proofs.Common.{_≡_, refl, List, map, ℕ}
+use Rattle.meaning.proofs.Terms.{Bench, clearing, resetting, emptied, swept, sweep}
+use Rattle.state.proofs.Terms.{Machine, machine, meaning, nodesIn, unfit}
 use Rattle.state.specs.declared.State.{State}
 use Rattle.store.specs.Changes.{Listed}
 use Rattle.promise.proofs.Parts.{parts, Means}

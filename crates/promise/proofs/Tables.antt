@@ -1,21 +1,14 @@
 -- From the code's arrays to the meaning's functions: an array read through `slot`, at the nodes that pass `ok`, is a function of the node,
 -- and a store to one slot is `put` at its node.
 -- Assumes nothing.
-use Prim.Native.Nat.{ℕ, _+_, _-_, _≤_, _<_}
-use mathlib.Core.Path.{_≡_, refl, sym, ap, _∙_, fun-ext}
-use mathlib.Core.Bool.{Bool, true, false, _||_, cond, false≢true, true≢false}
-use mathlib.Core.List.{List, map}
-use native.Mathlib.Omega.{arith}
-use lib.Dec.{eqb, leb}
-use lib.ListN.{length, getD, set, List·getD-map}
-use lib.Seq.{getD-set-same, getD-set-other}
-use borrow.Author.Tests.{eqb-true, eqb-false, ne-eqb, leb-true}
-use Rattle.units.proofs.Choice.{and-true, yes-cond, no-cond, yes-or, no-or}
-use Rattle.meaning.specs.Bench.{Bench, hub, isReader, isNode}
-use Rattle.meaning.specs.Gateway.{put}
+use Rattle.units.proofs.Common.{sym, _∙_, _≡_, refl, ap, fun-ext, true, false, Bool, cond, false≢true, true≢false, _||_, List, map, ℕ, _≤_}
+use Rattle.units.proofs.Common.{_-_, _+_, _<_, arith, eqb, leb, length, getD, set, List·getD-map, getD-set-same, ne-eqb, eqb-true, leb-true}
+use Rattle.units.proofs.Common.{lt-leb, eqb-false, and-true, yes-cond, no-cond, yes-or, no-or}
+use lib.Seq.{getD-set-other}
+use Rattle.meaning.proofs.Terms.{Bench, hub, isReader, isNode, put}
 use Rattle.demands.specs.Sound.{Sound}
-use Rattle.state.specs.State.{freshReader}
-use Rattle.state.specs.Machine.{Machine, meaning, seen, nodeSlot, nodesIn, nodesOf, readersOf, readerOf, regionOf, plain}
+use Rattle.demands.proofs.Numbers.{or-right}
+use Rattle.state.proofs.Terms.{freshReader, Machine, meaning, seen, nodeSlot, nodesIn, nodesOf, readersOf, readerOf, regionOf, plain}
 
 module _ {A : Type 0} (ok : ℕ → Bool) (slot : ℕ → ℕ) (d : A) (l : List A) where
   module _ (n : ℕ) (x : A) (is : ok n ≡ true) (inside : slot n < length l) (inj : (m : ℕ) → ok m ≡ true → slot m ≡ slot n → m ≡ n) where
@@ -83,22 +76,15 @@ pub hub-named : (b : Bench) (n : ℕ) → isNode b n ≡ true → isReader b n �
 hub-named b n p r = eqb-true n hub (sym (no-or r) ∙ p)
 
 pub hub-apart : (b : Bench) → Sound b → isReader b hub ≡ false
-hub-apart b ok = go (isReader b hub) refl
-  where
-    go : (t : Bool) → isReader b hub ≡ t → isReader b hub ≡ false
-    go true e = absurd (omega (arith, ok, reader-range b hub e))
-    go false e = e
+hub-apart b ok = rw (lt-leb hub (b .readers) (omega (arith, ok)))
 
 pub node-hub : (b : Bench) → isNode b hub ≡ true
-node-hub b = go (isReader b hub)
-  where
-    go : (t : Bool) → (t || true) ≡ true
-    go true = refl
-    go false = refl
+node-hub b = or-right (isReader b hub) true refl
 
 -- ---- what the machine means at a reader and at a node
 module _ (b : Bench) (m : Machine) (n : ℕ) where
-  pub reader-at : isReader b n ≡ true → meaning b m .reader n ≡ readerOf (getD (m .state .readers) (n - 1) freshReader) (regionOf b (m .memory) n)
+  pub reader-at : isReader b n ≡ true → meaning b m .reader n ≡ readerOf (getD (m .state .readers) (n - 1) freshReader)
+      (regionOf b (m .memory) n)
   unfolding meaning readersOf seen
   reader-at r = ap (λ x. readerOf x (regionOf b (m .memory) n)) (yes-cond freshReader r)
 

@@ -45,12 +45,14 @@ abbrev pub Obeyed : Bench → Call → Machine → Said → Machine → Type 0
 Obeyed b c m said m′ = Does b (expected b c m) m said m′
 
 -- the same, of what a function is given and leaves: state, store, plaque memory. `Makes` is the promise of the inner functions, for
--- callers that carry the proof of a consistent machine; `Answers` that of the public calls
-abbrev pub Makes : Bench → Outcome → State → List ℕ → List ℕ → Called → List ℕ → List ℕ → Type 0
-Makes b o s store memory r store′ memory′ = Does b o (machine s store memory) (spoken (r .reply)) (machine (r .state) store′ memory′)
+-- callers that carry the proof of a consistent machine: f is what the paper makes of the gateway; `Answers` that of the public calls
+abbrev pub Makes : Bench → (Gateway → Outcome) → State → List ℕ → List ℕ → Called → List ℕ → List ℕ → Type 0
+Makes b f s store memory r store′ memory′ =
+    Does b (f (meaning b (machine s store memory))) (machine s store memory) (spoken (r .reply)) (machine (r .state) store′ memory′)
 
 abbrev pub Answers : Bench → Call → State → List ℕ → List ℕ → Called → List ℕ → List ℕ → Type 0
-Answers b c s store memory r store′ memory′ = Makes b (expected b c (machine s store memory)) s store memory r store′ memory′
+Answers b c s store memory r store′ memory′ =
+    Obeyed b c (machine s store memory) (spoken (r .reply)) (machine (r .state) store′ memory′)
 
 -- ---- collect has an output besides
 -- what the code hands back for what is said

@@ -42,7 +42,8 @@ abbrev pub unnumbered : Machine
 unnumbered = with freshReader (record { instance = 0; handover = 0; answers = 0 }) 0 (replicate 4096 0)
 
 abbrev pub tagged : Machine
-tagged = with (record { plaque = record { present = true; id = idA; length = record { 0 = 4 } }; reading = off; report = noReport }) freshNode 0 (replicate 4096 0)
+tagged = with (record { plaque = record { present = true; id = idA; length = record { 0 = 4 } }; reading = off; report = noReport })
+    freshNode 0 (replicate 4096 0)
 
 -- node 1 with an answer of 6 words pending
 abbrev pub waiting : Machine
@@ -82,7 +83,8 @@ sixteen =
 -- is none, a node that is none, no words, no output
 unfoldable pub hasty : List Call
 hasty =
-    command (midnight 2 30) Register [] ∷ check 99 (midnight 2 30) 0 ∷ arrive 99 [] [] ∷ leave 99 ∷ collect Framed 99 0 ∷ acknowledge 99 0 ∷ []
+    command (midnight 2 30) Register [] ∷ check 99 (midnight 2 30) 0 ∷ arrive 99 [] [] ∷ leave 99 ∷ collect Framed 99 0 ∷ acknowledge 99 0 ∷
+    []
 
 unfoldable pub saidOn : Machine → List Said
 saidOn m = map (λ c. answer (c on m)) hasty

@@ -9,16 +9,19 @@ ghost use Prim.Native.Nat.{_*_, _≤_};
 ghost use lib.Dec.{leb};
 ghost use lib.ListN.{length};
 ghost use lib.Seq.{sets};
-ghost use Rattle.listing.specs.Listing.{listing};
-ghost use Rattle.dialog.specs.Dialog.{linesOf, conversation};
+ghost use Rattle.listing.specs.Listing.{listing, longestListing};
+ghost use Rattle.dialog.specs.Dialog.{linesOf, conversation, longestAnswer};
 
-// The listing of a run file, at the front of the output, and its length. An output of less than 2,600,000 bytes could be too short: it stays
-// as it is, and the length is the largest there is.
+// The listing of a run file, at the front of the output, and its length. An output of less than 2,600,000 bytes could be too short: it
+// stays as it is, and the length is the largest there is.
 #[no_mangle]
 pub extern "C" fn rashdumof_night(file: &[u8], out: &mut [u8]) -> usize
-    ensures { λ r. ⌜ r ≡ cond (leb 2600000 (length (now (out .entry)))) (length (listing (now (file .entry)))) 18446744073709551615 ⌝ }
-    ensures { λ _. ⌜ now (out .exit) ≡ cond (leb 2600000 (length (now (out .entry)))) (sets (now (out .entry)) 0 (listing (now (file .entry)))) (now (out .entry)) ⌝ }
-    ensures { λ _. ⌜ (leb 2600000 (length (now (out .entry))) ≡ true → length (listing (now (file .entry))) ≤ length (now (out .entry))) ⌝ }
+    ensures { λ r. ⌜ r ≡ cond (leb longestListing (length (now (out .entry)))) (length (listing (now (file .entry))))
+        18446744073709551615 ⌝ }
+    ensures { λ _. ⌜ now (out .exit) ≡ cond (leb longestListing (length (now (out .entry))))
+        (sets (now (out .entry)) 0 (listing (now (file .entry)))) (now (out .entry)) ⌝ }
+    ensures { λ _. ⌜ (leb longestListing (length (now (out .entry))) ≡ true → length (listing (now (file .entry))) ≤ length
+        (now (out .entry))) ⌝ }
 {
     match list(file, out) {
         Listed::Written(n) => n,
@@ -30,9 +33,12 @@ pub extern "C" fn rashdumof_night(file: &[u8], out: &mut [u8]) -> usize
 // input could be too short: it stays as it is, and the length is the largest there is.
 #[no_mangle]
 pub extern "C" fn rashdumof_console(input: &[u8], out: &mut [u8]) -> usize
-    ensures { λ r. ⌜ r ≡ cond (leb (length (linesOf (now (input .entry))) * 691) (length (now (out .entry)))) (length (conversation (now (input .entry)))) 18446744073709551615 ⌝ }
-    ensures { λ _. ⌜ now (out .exit) ≡ cond (leb (length (linesOf (now (input .entry))) * 691) (length (now (out .entry)))) (sets (now (out .entry)) 0 (conversation (now (input .entry)))) (now (out .entry)) ⌝ }
-    ensures { λ _. ⌜ (leb (length (linesOf (now (input .entry))) * 691) (length (now (out .entry))) ≡ true → length (conversation (now (input .entry))) ≤ length (now (out .entry))) ⌝ }
+    ensures { λ r. ⌜ r ≡ cond (leb (length (linesOf (now (input .entry))) * longestAnswer) (length (now (out .entry))))
+        (length (conversation (now (input .entry)))) 18446744073709551615 ⌝ }
+    ensures { λ _. ⌜ now (out .exit) ≡ cond (leb (length (linesOf (now (input .entry))) * longestAnswer) (length (now (out .entry))))
+        (sets (now (out .entry)) 0 (conversation (now (input .entry)))) (now (out .entry)) ⌝ }
+    ensures { λ _. ⌜ (leb (length (linesOf (now (input .entry))) * longestAnswer) (length (now (out .entry))) ≡ true → length
+        (conversation (now (input .entry))) ≤ length (now (out .entry))) ⌝ }
 {
     match converse(input, out) {
         Text::Written(n) => n,

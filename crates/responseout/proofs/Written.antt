@@ -1,14 +1,8 @@
 -- The length of a response's words, and what stays of the output behind them.
 -- Assumes nothing.
-use Prim.Native.Nat.{ℕ, _+_}
-use mathlib.Core.Path.{_≡_, ap}
-use mathlib.Core.List.{List, _∷_, _++_}
-use native.Mathlib.Omega.{arith}
-use lib.ListN.{length, drop}
-use Rattle.units.proofs.PackingLaws.{length-packed}
+use Rattle.units.proofs.Common.{_≡_, ap, List, _∷_, _++_, ℕ, _+_, arith, length, drop, length-packed}
 use Rattle.meaning.specs.declared.packet.Response.{Response}
-use Rattle.meaning.specs.Packet.{overall}
-use Rattle.meaning.specs.Response.{responseBody}
+use Rattle.meaning.proofs.Terms.{overall, responseBody}
 
 pub body-length : (r : Response) (bs : List ℕ) → length (responseBody r bs) ≡ overall (length bs)
 unfolding responseBody

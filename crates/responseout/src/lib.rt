@@ -14,7 +14,8 @@ ghost use Prim.Native.Nat.{_≤_};
 ghost use lib.ListN.{length, drop};
 ghost use Rattle.meaning.specs.Bench.{full};
 ghost use Rattle.meaning.specs.Packet.{overall};
-ghost use Rattle.meaning.specs.Response.{markOf, bears, shownCount, amountWrong, respondRefusal, responseBody, responseWords, writeResponse, responseOutput};
+ghost use Rattle.meaning.specs.Response.{markOf, bears, shownCount, amountWrong, respondRefusal, responseBody, responseWords};
+ghost use Rattle.meaning.specs.Response.{writeResponse, responseOutput};
 
 // Framed responses of node 1 have no word 00, those of every other node have it.
 pub fn bears(form: Form, node: u8) -> bool
@@ -78,7 +79,8 @@ fn mark(error: bool) -> u8
 fn put_body(r: Response, bytes: &[u8], out: &mut [u16])
     requires { ⌜ length (now bytes) ≤ 255 ⌝ }
     requires { ⌜ overall (length (now bytes)) ≤ length (now out) ⌝ }
-    ensures { λ _. ⌜ now (out .exit) ≡ responseBody r (now (bytes .entry)) ++ drop (overall (length (now (bytes .entry)))) (now (out .entry)) ⌝ }
+    ensures { λ _. ⌜ now (out .exit) ≡ responseBody r (now (bytes .entry)) ++ drop (overall (length (now (bytes .entry))))
+        (now (out .entry)) ⌝ }
 {
     let amount = Bytes(bytes.len() as u16);
     let s = r.stamp;
@@ -95,7 +97,8 @@ fn put_body(r: Response, bytes: &[u8], out: &mut [u16])
 fn put_words(form: Form, r: Response, bytes: &[u8], out: &mut [u16])
     requires { ⌜ length (now bytes) ≤ 255 ⌝ }
     requires { ⌜ shownCount form (r .node) (length (now bytes)) ≤ length (now out) ⌝ }
-    ensures { λ _. ⌜ now (out .exit) ≡ responseWords form r (now (bytes .entry)) ++ drop (length (responseWords form r (now (bytes .entry)))) (now (out .entry)) ⌝ }
+    ensures { λ _. ⌜ now (out .exit) ≡ responseWords form r (now (bytes .entry)) ++ drop
+        (length (responseWords form r (now (bytes .entry)))) (now (out .entry)) ⌝ }
 {
     if bears(form, r.node) {
         out[0] = word(0xFF, r.node);

@@ -1,17 +1,13 @@
 -- One column of the table at a byte, by computation: an arm of a `match` gives the value that the column has at every byte of the arm.
 -- A test of the value stands for each type: a column's value that passes it is the arm's.
 -- Assumes nothing.
-use Prim.Native.Nat.{ℕ, _+_, _≤_, _<_}
-use mathlib.Core.Path.{_≡_, refl, ap, subst, _∙_}
-use mathlib.Core.Bool.{Bool, true, false, not, _&&_, _||_}
-use mathlib.Core.List.{List, [], _∷_}
-use native.Mathlib.Omega.{arith}
-use lib.Dec.{T, eqb, eqb→eq}
+use Rattle.units.proofs.Common.{_∙_, _≡_, refl, ap, subst, true, false, Bool, not, _&&_, _||_, List, [], _∷_, ℕ, _≤_, _+_, _<_, arith, eqb}
+use Rattle.units.proofs.Common.{T, keys}
+use lib.Dec.{eqb→eq}
 use types.Run.{OneOf}
 use mir.Facts.{and-yes}
-use Rattle.units.proofs.Arms.{Rest, anyOf, from, keys, rest, each}
-use Rattle.meaning.specs.Bench.{full, hub}
-use Rattle.meaning.specs.Table.{table, lookup, rowOf, suits, _to_}
+use Rattle.units.proofs.Arms.{Rest, anyOf, from, rest, each}
+use Rattle.meaning.proofs.Terms.{full, hub, table, lookup, rowOf, suits, _to_}
 use Rattle.meaning.specs.declared.table.Kind.{Kind}
 use Rattle.meaning.specs.declared.table.Kind.the-variants.{Plaque, Continuous, ResetReader, Gateway, Unknown}
 use Rattle.meaning.specs.declared.table.Load.{Load}
@@ -23,8 +19,7 @@ use Rattle.meaning.specs.declared.table.Row.{Row}
 arm : {A : Type 0} (is : A → Bool) (v : A) → ((a : A) → T (is a) → v ≡ a) → (column : Row → A) (kss : List (List ℕ)) (lo n m : ℕ)
     → Rest kss m (Unit {0}) → lo ≤ m → m < lo + n → T (from (λ (k : ℕ). anyOf k kss || is (column (rowOf full k))) lo n)
     → v ≡ column (rowOf full m)
-arm is v sound column kss lo n m r h k t =
-    sound (column (rowOf full m)) (rest kss (λ (x : ℕ). is (column (rowOf full x))) lo n m r h k t)
+arm is v sound column kss lo n m r h k t = sound (column (rowOf full m)) (rest kss (λ (x : ℕ). is (column (rowOf full x))) lo n m r h k t)
 
 abbrev pub isLimits : ℕ → ℕ → Limits → Bool
 isLimits a z l = eqb a (l .low) && eqb z (l .high)

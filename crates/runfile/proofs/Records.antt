@@ -1,20 +1,12 @@
 -- What a whole record says in numbers, and back; and what an answer of the reader says of the bytes.
 -- Assumes nothing.
-use Prim.Native.Nat.{ℕ, _+_, _*_, _≤_, _-_}
-use mathlib.Core.Path.{_≡_, refl, sym, _∙_}
-use mathlib.Core.List.{List}
-use mathlib.Core.Bool.{Bool, true, false, cond, _&&_}
-use native.Mathlib.Omega.{arith}
-use lib.Dec.{leb}
-use lib.ListN.{length, take, drop, length-drop}
-use lib.Seq.{take-all}
-use borrow.Author.Tests.{leb-true, le-leb}
-use Rattle.units.specs.Count.{within}
+use Rattle.units.proofs.Common.{sym, _∙_, _≡_, refl, true, false, Bool, cond, _&&_, List, ℕ, _≤_, _-_, _+_, _*_, arith, leb, length, drop}
+use Rattle.units.proofs.Common.{take, length-drop, take-all, le-leb, leb-true, within, yes-cond, no-cond, yes-and, and-true}
 use Rattle.units.specs.declared.Bytes.{Bytes}
 use Rattle.units.specs.declared.Words.{Words}
-use Rattle.units.proofs.Choice.{yes-cond, no-cond, yes-and, and-true}
-use Rattle.meaning.specs.Bench.{Bench, isReader}
-use Rattle.listing.specs.Records.{countWhole, countSaid, plaqueWhole, plaqueNode, plaqueLength, plaqueSize, commandWhole, commandLength, commandSize}
+use Rattle.meaning.proofs.Terms.{Bench, isReader}
+use Rattle.listing.specs.Records.{countWhole, countSaid, plaqueWhole, plaqueNode, plaqueLength, plaqueSize, commandWhole, commandLength}
+use Rattle.listing.specs.Records.{commandSize}
 use Rattle.runfile.specs.Records.{countOf, plaqueOf, commandOf}
 use Rattle.runfile.specs.declared.CountRecord.{CountRecord}
 use Rattle.runfile.specs.declared.PlaqueRecord.{PlaqueRecord}
@@ -84,7 +76,8 @@ pub record PlaqueFacts (b : Bench) (bs : List ℕ) (n l : ℕ) : Type 0 where
 pub plaque-facts : (b : Bench) (bs : List ℕ) → plaqueWhole b bs ≡ true → PlaqueFacts b bs (plaqueNode bs) (plaqueLength bs)
 unfolding plaqueWhole
 plaque-facts b bs e =
-    let p = and-true (leb 11 (length bs) && isReader b (plaqueNode bs) && within 1 (b .region) (plaqueLength bs)) (leb (plaqueSize bs) (length bs)) e in
+    let p = and-true (leb 11 (length bs) && isReader b (plaqueNode bs) && within 1 (b .region) (plaqueLength bs))
+    (leb (plaqueSize bs) (length bs)) e in
     let q = and-true (leb 11 (length bs) && isReader b (plaqueNode bs)) (within 1 (b .region) (plaqueLength bs)) (p .0) in
     let n = within-true 1 (b .readers) (plaqueNode bs) (and-true (leb 11 (length bs)) (isReader b (plaqueNode bs)) (q .0) .1) in
     let l = within-true 1 (b .region) (plaqueLength bs) (q .1) in
@@ -100,7 +93,8 @@ facts-plaque b bs f =
 
 pub no-plaque : (b : Bench) (bs : List ℕ) → (PlaqueFacts b bs (plaqueNode bs) (plaqueLength bs) → ⊥) → PlaqueRecord.Broken ≡ plaqueOf b bs
 unfolding plaqueOf
-no-plaque b bs f = sym (no-cond (PlaqueRecord.Plaque (plaqueNode bs) (record { 0 = plaqueLength bs })) (refuted (plaqueWhole b bs) (λ e. f (plaque-facts b bs e))))
+no-plaque b bs f = sym (no-cond (PlaqueRecord.Plaque (plaqueNode bs) (record { 0 = plaqueLength bs }))
+    (refuted (plaqueWhole b bs) (λ e. f (plaque-facts b bs e))))
 
 pub a-plaque : (b : Bench) (bs : List ℕ) → PlaqueFacts b bs (plaqueNode bs) (plaqueLength bs)
     → PlaqueRecord.Plaque (plaqueNode bs) (record { 0 = plaqueLength bs }) ≡ plaqueOf b bs
@@ -153,7 +147,8 @@ facts-command bs f =
 
 pub no-command : (bs : List ℕ) → (CommandFacts bs (commandLength bs) → ⊥) → CommandRecord.Broken ≡ commandOf bs
 unfolding commandOf
-no-command bs f = sym (no-cond (CommandRecord.Command (record { 0 = commandLength bs })) (refuted (commandWhole bs) (λ e. f (command-facts bs e))))
+no-command bs f = sym (no-cond (CommandRecord.Command (record { 0 = commandLength bs }))
+    (refuted (commandWhole bs) (λ e. f (command-facts bs e))))
 
 pub a-command : (bs : List ℕ) → CommandFacts bs (commandLength bs) → CommandRecord.Command (record { 0 = commandLength bs }) ≡ commandOf bs
 unfolding commandOf

@@ -11,6 +11,9 @@ ghost use lib.ListN.{drop};
 ghost use Rattle.meaning.specs.Bench.{full};
 ghost use Rattle.runfile.specs.Records.{countOf, plaqueOf, commandOf};
 
+// No run file is longer.
+pub const LONGEST: usize = 65536;
+
 pub enum CountRecord {
     Count(u16),
     Broken,

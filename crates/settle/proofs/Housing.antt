@@ -1,19 +1,11 @@
 -- What was decided at the gateway's own node, put back into any machine that the parts are of, is the outcome that the definition settles.
 -- Assumes nothing.
-use Prim.Native.Nat.{ℕ}
-use mathlib.Core.Path.{_≡_, refl, sym, ap, _∙_, subst}
-use mathlib.Core.Bool.{Bool, true, false}
-use mathlib.Core.List.{List, [], _∷_, map}
-use native.Mathlib.Omega.{arith}
-use lib.ListN.{length, getD, take, set}
+use Rattle.units.proofs.Common.{sym, _∙_, _≡_, refl, ap, subst, true, false, Bool, List, [], _∷_, map, ℕ, arith, length, getD, take, set}
 use Rattle.units.specs.declared.Words.{Words}
-use Rattle.meaning.specs.Bench.{full, hub}
-use Rattle.meaning.specs.Response.{wellFormed}
-use Rattle.meaning.specs.Gateway.{Gateway, swept, sweep, setName}
-use Rattle.meaning.specs.Call.{Said, refused, queued, Local, Try, Desk, fromDesk, lifted, settled}
-use Rattle.state.specs.State.{joinedNode, nothing}
-use Rattle.state.specs.Machine.{Machine, machine, meaning}
-use Rattle.state.specs.Consistent.{nodeAt, counts, unfit}
+use Rattle.meaning.proofs.Terms.{full, hub, wellFormed, Gateway, swept, sweep, Said, refused, queued, Local, Try, Desk, fromDesk, lifted}
+use Rattle.meaning.proofs.Terms.{settled}
+use Rattle.meaning.specs.Gateway.{setName}
+use Rattle.state.proofs.Terms.{joinedNode, Machine, machine, meaning, nodeAt, counts, unfit}
 use Rattle.state.specs.declared.node.Node.{Node}
 use Rattle.state.specs.declared.Name.{Name}
 use Rattle.state.specs.declared.State.{State}
@@ -51,7 +43,8 @@ module _ (m : Machine) (fit : unfit full m ≡ 0) where
   -- the machine with its lists swept
   abbrev pub swept-by : Broom → Machine
   swept-by z =
-      machine (withLists (m .state) (map (sweptNode z) (m .state .nodes)) (sweptWords z (m .state .held))) (sweptStore z (m .state .held) (m .store)) (m .memory)
+      machine (withLists (m .state) (map (sweptNode z) (m .state .nodes)) (sweptWords z (m .state .held)))
+      (sweptStore z (m .state .held) (m .store)) (m .memory)
 
   pub swept-means : (z : Broom) → Means full (swept-by z) (sweep (broomOf z) (meaning full m))
   unfolding sweptNode sweptWords sweptStore broomOf swept
@@ -63,7 +56,8 @@ module _ (m : Machine) (fit : unfit full m ≡ 0) where
       cleared full m fit _ _ (P.clears full (m .store) (m .state) (sound m fit) (length (m .state .held)) (p .eachHeld ∙ sym (p .eachNode)))
   swept-means B.Reset =
       let p = parts full m fit in
-      restarted full m fit _ _ (P.resets full (m .store) (m .state) (sound m fit) (length (m .state .held)) (p .eachHeld ∙ sym (p .eachNode)))
+      restarted full m fit _ _ (P.resets full (m .store) (m .state) (sound m fit) (length (m .state .held))
+      (p .eachHeld ∙ sym (p .eachNode)))
 
   module _ {answer : List ℕ} {d : Ruled} (s : D.Settles full d answer) where
     -- the machine with the effect
@@ -114,7 +108,8 @@ house-enlistable {nodes} {held} {name} {store} {answer} {d} a o v {ns} e =
     let z : Broom = d .broom in
     let g = enlistable m (swept-by m (a .fit) z) (a .fit) (swept-means m (a .fit) z .fit) 16 (omega arith) (take (d .words .0) answer)
     (governed-formed m (a .fit) o v) in
-    subst (λ (l : List Words). Enlistable full l 16 (getD ns 16 blank) (length (take (d .words .0) answer)) (length store)) (a .house .helds)
+    subst (λ (l : List Words). Enlistable full l 16 (getD ns 16 blank) (length (take (d .words .0) answer)) (length store))
+    (a .house .helds)
     (subst (λ (l : List Node). Enlistable full (a .state .held) 16 (getD l 16 blank) (length (take (d .words .0) answer)) (length store))
     (ap (map (sweptNode z)) (a .house .all) ∙ sym e) g)
 
@@ -129,10 +124,12 @@ module _ (nodes : List Node) (held : List Words) (name : Name) (store answer : L
       ∙ ap (λ (l : List Words). record { name = name; readers = s .readers; nodes = s .nodes; held = l }) (sym (a .helds))
       ∙ ap (λ (t : Name). record { name = t; readers = s .readers; nodes = s .nodes; held = s .held }) (sym (a .title))
 
-  pub houses-refused : {k : ℕ} → d .verdict ≡ W.Refused k → Held (record { nodes = nodes; held = held; name = name; reply = Reply.Refused k }) store
+  pub houses-refused : {k : ℕ} → d .verdict ≡ W.Refused k → Held (record
+      { nodes = nodes; held = held; name = name; reply = Reply.Refused k }) store
   unfolding spoken
   houses-refused {k} v s memory a fit =
-      subst (λ (t : State). Does full (housing full d answer (meaning full (machine s store memory))) (machine s store memory) (refused k) (machine t store memory))
+      subst (λ (t : State). Does full (housing full d answer (meaning full (machine s store memory))) (machine s store memory) (refused k)
+      (machine t store memory))
       (sym (unmoved s (Reply.Refused k) a)) (governed-refused (machine s store memory) fit o v)
 
   module _ (v : d .verdict ≡ W.Due) {ns : List Node} (swept-is : ns ≡ map (sweptNode (d .broom)) nodes) {store′ : List ℕ} {q : Enlisted}
@@ -147,27 +144,38 @@ module _ (nodes : List Node) (held : List Words) (name : Name) (store answer : L
     pub houses-13 : q .ok ≡ false → Held (record { nodes = nodes; held = held; name = name; reply = Reply.Refused 13 }) store′
     unfolding spoken
     houses-13 f s memory a fit =
-        subst (λ (k : Machine). Does full (housing full d answer (meaning full (machine s store memory))) (machine s store memory) (refused 13) k)
+        subst (λ (k : Machine). Does full (housing full d answer (meaning full (machine s store memory))) (machine s store memory)
+        (refused 13) k)
         (ap (λ (l : List ℕ). machine s l memory) (sym (e .no f .2))
         ∙ ap (λ (t : State). machine t store′ memory) (sym (unmoved s (Reply.Refused 13) a)))
         (governed-13 (machine s store memory) fit o v (room-of f s a))
 
-    pub houses-queued : q .ok ≡ true → Held (record { nodes = set ns 16 (q .node); held = q .held; name = d .name; reply = Reply.Queued }) store′
+    pub houses-queued : q .ok ≡ true → Held (record { nodes = set ns 16 (q .node); held = q .held; name = d .name; reply = Reply.Queued })
+        store′
     unfolding spoken
     houses-queued f s memory a fit =
         let y = e .yes f in
         let z : Broom = d .broom in
         let hs : List Words = sweptWords z (s .held) in
         let all : map (sweptNode z) (s .nodes) ≡ ns = ap (map (sweptNode z)) (a .all) ∙ sym swept-is in
-        let h : heldMore hs 16 (length w) ≡ q .held = ap (λ (l : List Words). heldMore (sweptWords z l) 16 (length w)) (a .helds) ∙ sym (y .1) in
+        let h : heldMore hs 16 (length w) ≡ q .held = ap (λ (l : List Words). heldMore (sweptWords z l) 16 (length w)) (a .helds) ∙ sym
+        (y .1) in
         let k : storeMore hs 16 w (sweptStore z (s .held) store) ≡ store′ =
         ap (λ (l : List Words). storeMore (sweptWords z l) 16 w (sweptStore z l store)) (a .helds) ∙ sym (y .2) in
         subst (λ (j : Machine). Does full (housing full d answer (meaning full (machine s store memory))) (machine s store memory) queued j)
-        (ap (λ (l : List Node). machine (record { name = d .name; readers = s .readers; nodes = set l 16 (joinedNode (getD l 16 blank)); held = heldMore hs 16 (length w) })
+        (ap (λ (l : List Node). machine
+        (record {
+          name = d .name;
+          readers = s .readers;
+          nodes = set l 16 (joinedNode (getD l 16 blank));
+          held = heldMore hs 16
+              (length w);
+        })
         (storeMore hs 16 w (sweptStore z (s .held) store)) memory) all
         ∙ ap (λ (l : Node). machine (record { name = d .name; readers = s .readers; nodes = set ns 16 l; held = heldMore hs 16 (length w) })
         (storeMore hs 16 w (sweptStore z (s .held) store)) memory) (sym (y .0))
         ∙ ap (λ (l : List Words). machine (record { name = d .name; readers = s .readers; nodes = set ns 16 (q .node); held = l })
         (storeMore hs 16 w (sweptStore z (s .held) store)) memory) h
-        ∙ ap (λ (l : List ℕ). machine (record { name = d .name; readers = s .readers; nodes = set ns 16 (q .node); held = q .held }) l memory) k)
+        ∙ ap (λ (l : List ℕ). machine (record { name = d .name; readers = s .readers; nodes = set ns 16 (q .node); held = q .held }) l
+        memory) k)
         (governed-queued (machine s store memory) fit o v (room-of f s a))

@@ -1,29 +1,18 @@
 -- What was decided at a reader, put back into any machine that the parts are of, is the outcome that the definition settles.
 -- Assumes nothing.
-use Prim.Native.Nat.{ℕ, _+_, _-_, _*_, _≤_, _<_}
-use mathlib.Core.Path.{_≡_, refl, sym, ap, _∙_, subst}
-use mathlib.Core.Bool.{Bool, true, false, not}
-use mathlib.Core.List.{List, [], _∷_, _++_, append-assoc, append-nil}
-use native.Mathlib.Omega.{arith}
-use native.Mathlib.Nat.{add-zero}
-use lib.Dec.{T, eqb}
-use lib.ListN.{length, getD, take, drop, set, replicate, length-replicate, drop-of-length-le}
-use lib.Seq.{paste, slice, take-all, length-paste, set-getD}
+use Rattle.units.proofs.Common.{sym, _∙_, _≡_, refl, ap, subst, true, false, Bool, not, List, [], _∷_, _++_, append-assoc, append-nil, ℕ}
+use Rattle.units.proofs.Common.{_≤_, _-_, _+_, _<_, _*_, add-zero, arith, eqb, T, length, drop, getD, take, set, replicate}
+use Rattle.units.proofs.Common.{drop-of-length-le, length-replicate, take-all, paste, slice, set-getD, bytesOf, keys}
+use lib.Seq.{length-paste}
 use types.Run.{OneOf}
 use denote.Enum.Declared.{tagOf}
 use borrow.Rule.Slice.PartMut.{putMid, post-is, put-same}
-use Rattle.units.specs.Packing.{bytesOf}
 use Rattle.units.specs.declared.Words.{Words}
-use Rattle.units.proofs.Arms.{keys}
-use Rattle.meaning.specs.Bench.{full, isReader}
-use Rattle.meaning.specs.Response.{wellFormed}
+use Rattle.meaning.proofs.Terms.{full, isReader, wellFormed, setReader, Said, refused, queued, Local, Try, lifted, settled}
 use Rattle.meaning.specs.Gateway as M
-use Rattle.meaning.specs.Gateway.{setReader}
-use Rattle.meaning.specs.Call.{Said, refused, queued, Local, Try, lifted, settled}
 use Rattle.demands.specs.Sound.{full-sound}
-use Rattle.state.specs.State.{freshReader, freshNode, joinedNode, nothing}
-use Rattle.state.specs.Machine.{Machine, machine, meaning, readerOf, regionOf}
-use Rattle.state.specs.Consistent.{nodeAt, counts, unfit}
+use Rattle.state.proofs.Terms.{freshReader, freshNode, joinedNode, Machine, machine, meaning, readerOf, regionOf, nodeAt, counts}
+use Rattle.state.proofs.Terms.{unfit}
 use Rattle.state.specs.declared.node.Node.{Node}
 use Rattle.state.specs.declared.reader.Reader.{Reader}
 use Rattle.state.specs.declared.State.{State}
@@ -101,7 +90,8 @@ pub still : (n : ℕ) (own : Node) (x : Reader) (held : List Words) (s : State) 
     → seated s n (record { node = own; held = held; reader = x; reply = p }) ≡ s
 still n own x held s p a =
     let k : set (s .nodes) (n - 1) own ≡ s .nodes = ap (set (s .nodes) (n - 1)) (sym (a .node)) ∙ set-getD (s .nodes) (n - 1) freshNode in
-    let r : set (s .readers) (n - 1) x ≡ s .readers = ap (set (s .readers) (n - 1)) (sym (a .reader)) ∙ set-getD (s .readers) (n - 1) freshReader in
+    let r : set (s .readers) (n - 1) x ≡ s .readers = ap (set (s .readers) (n - 1)) (sym (a .reader)) ∙ set-getD (s .readers) (n - 1)
+    freshReader in
     ap (λ (l : List Node). record { name = s .name; readers = set (s .readers) (n - 1) x; nodes = l; held = held }) k
     ∙ ap (λ (l : List Reader). record { name = s .name; readers = l; nodes = s .nodes; held = held }) r
     ∙ ap (λ (l : List Words). record { name = s .name; readers = s .readers; nodes = s .nodes; held = l }) (sym (a .helds))
@@ -152,7 +142,8 @@ module _ (m : Machine) (fit : unfit full m ≡ 0) (n : ℕ) (is : isReader full 
 
   served-refused : {k : ℕ} → d .verdict ≡ W.Refused k → AtReader full m n made (refused k) m
   unfolding told
-  served-refused {k} v = refusing full m (setReader n) n (ap (λ (v : Verdict). told v (readerOf (d .after) region′) (take (d .words .0) answer)) v)
+  served-refused {k} v = refusing full m (setReader n) n (ap (λ (v : Verdict). told v (readerOf (d .after) region′)
+      (take (d .words .0) answer)) v)
 
   module _ (v : d .verdict ≡ W.Due) where
     abbrev w : List ℕ
@@ -167,13 +158,15 @@ module _ (m : Machine) (fit : unfit full m ≡ 0) (n : ℕ) (is : isReader full 
 
     served-13 : roomFor full (counts (m .state .held)) (n - 1) (length w) ≡ false → AtReader full m n made (refused 13) m
     served-13 f =
-        by-due _ _ (due-refused m n (n - 1) (reader-node full n is) (reader-slot full full-sound n is) _ w (due-formed n is s v) served served-means f)
+        by-due _ _ (due-refused m n (n - 1) (reader-node full n is) (reader-slot full full-sound n is) _ w (due-formed n is s v) served
+        served-means f)
 
     served-queued : roomFor full (counts (m .state .held)) (n - 1) (length w) ≡ true
         → AtReader full m n made queued
         (enlisted m n (n - 1) (reader-node full n is) (reader-slot full full-sound n is) _ w (due-formed n is s v) served served-means)
     served-queued f =
-        by-due _ _ (due-joined m n (n - 1) (reader-node full n is) (reader-slot full full-sound n is) _ w (due-formed n is s v) served served-means f)
+        by-due _ _ (due-joined m n (n - 1) (reader-node full n is) (reader-slot full full-sound n is) _ w (due-formed n is s v) served
+        served-means f)
 
 -- ---- as `seat` promises it
 module _ {n : ℕ} {own : Node} {x : Reader} {held : List Words} {store memory : List ℕ} (a : Seatable full n own x held store memory) where
@@ -202,7 +195,8 @@ module _ (n : ℕ) (own : Node) (x : Reader) (held : List Words) (store answer :
   abbrev Promised : Seated → List ℕ → Type 0
   Promised r store′ = Settles full n own x held d answer store r store′
 
-  pub seats-refused : {k : ℕ} → d .verdict ≡ W.Refused k → Promised (record { node = own; held = held; reader = x; reply = Reply.Refused k }) store
+  pub seats-refused : {k : ℕ} → d .verdict ≡ W.Refused k → Promised (record
+      { node = own; held = held; reader = x; reply = Reply.Refused k }) store
   unfolding spoken memoryAfter
   seats-refused {k} v ws memory f s a fit =
       let m : Machine = machine s store memory in
@@ -263,11 +257,11 @@ seat-of m fit n is =
 
 -- what is then in the plaque memory: the region altered where an answer was queued, and nothing else anywhere
 module _ (n : ℕ) (is : isReader full n ≡ true) (memory : List ℕ) (long : length memory ≡ 16384) (ws : List ℕ) where
-  pub queued-back : {p : Reply} → p ≡ Reply.Queued → (c : Change) (ys : List ℕ) → Suits c ws 1024 → ys ≡ altered c ws (Lent n is memory long)
+  pub queued-back : {p : Reply} → p ≡ Reply.Queued → (c : Change) (ys : List ℕ) → Suits c ws 1024 → ys ≡ altered c ws
+      (Lent n is memory long)
       → putMid ((n - 1) * 1024) ((n - 1) * 1024 + 1024 - (n - 1) * 1024) memory ys ≡ memoryAfter full n p c ws memory
   unfolding memoryAfter
-  queued-back e c ys h y =
-      put-back n is memory long c ws ys h y ∙ ap (λ (p : Reply). memoryAfter full n p c ws memory) (sym e)
+  queued-back e c ys h y = put-back n is memory long c ws ys h y ∙ ap (λ (p : Reply). memoryAfter full n p c ws memory) (sym e)
 
   pub other-back : (p : Reply) (c : Change) → OneOf (0 ∷ 1 ∷ 2 ∷ []) (tagOf the-type p) → memory ≡ memoryAfter full n p c ws memory
   unfolding memoryAfter

@@ -1,25 +1,11 @@
 -- The seam, once for every call: an answer that is due, whatever the effect, is refused by 13 on any machine, or joins its node's list.
 -- Assumes nothing.
-use Prim.Native.Nat.{ℕ, _≤_, _<_}
-use mathlib.Core.Path.{_≡_, refl, sym, ap, _∙_, subst}
-use mathlib.Core.Bool.{true, false}
-use mathlib.Core.List.{List}
-use native.Mathlib.Omega.{arith}
-use lib.Dec.{leb}
-use lib.ListN.{List·getD-map, length, getD, set, length-map}
-use borrow.Author.Tests.{leb-true}
-use Rattle.units.specs.Count.{every}
+use Rattle.units.proofs.Common.{sym, _∙_, _≡_, refl, ap, subst, true, false, List, ℕ, _≤_, _<_, arith, leb, length, getD, set, length-map}
+use Rattle.units.proofs.Common.{List·getD-map, leb-true, every, and-true}
 use Rattle.units.specs.declared.Words.{Words}
-use Rattle.units.proofs.Choice.{and-true}
-use Rattle.meaning.specs.Bench.{full, isNode}
-use Rattle.meaning.specs.Response.{wellFormed}
-use Rattle.meaning.specs.Gateway.{Gateway, sweep, join}
-use Rattle.meaning.specs.Room.{fits}
-use Rattle.meaning.specs.Call.{refused, queued, Try, settled}
+use Rattle.meaning.proofs.Terms.{full, isNode, wellFormed, Gateway, join, fits, refused, queued, Try, settled}
 use Rattle.demands.specs.Sound.{full-sound}
-use Rattle.state.specs.State.{joinedNode, nothing}
-use Rattle.state.specs.Machine.{Machine, machine, meaning, nodeSlot}
-use Rattle.state.specs.Consistent.{nodeAt, bounded, counts, unfit}
+use Rattle.state.proofs.Terms.{joinedNode, nothing, Machine, machine, meaning, nodeSlot, nodeAt, bounded, counts, unfit}
 use Rattle.state.proofs.Lists.{every-get}
 use Rattle.state.proofs.Formed.{formed-most}
 use Rattle.state.proofs.Read.{blank}
@@ -46,7 +32,8 @@ module _ (m : Machine) (n i : ℕ) (is : isNode full n ≡ true) (slot : nodeSlo
   abbrev pub enlisted : Machine
   enlisted =
       machine
-      (withLists (m₁ .state) (set (m₁ .state .nodes) i (joinedNode (getD (m₁ .state .nodes) i blank))) (heldMore (m₁ .state .held) i (length w)))
+      (withLists (m₁ .state) (set (m₁ .state .nodes) i (joinedNode (getD (m₁ .state .nodes) i blank)))
+      (heldMore (m₁ .state .held) i (length w)))
       (storeMore (m₁ .state .held) i w (m₁ .store)) (m₁ .memory)
 
   pub due-joined : roomFor full (counts (m₁ .state .held)) i (length w) ≡ true
@@ -54,7 +41,8 @@ module _ (m : Machine) (n i : ℕ) (is : isNode full n ≡ true) (slot : nodeSlo
   due-joined f =
       let p = parts full m₁ (e .fit) in
       let ok : Sound full (m₁ .store) (m₁ .state) = record { size = p .store; lists = p .lists } in
-      let j : i < length (m₁ .state .nodes) = subst (λ (k : ℕ). k < length (m₁ .state .nodes)) slot (node-inside full n _ is (p .eachNode)) in
+      let j : i < length (m₁ .state .nodes) = subst (λ (k : ℕ). k < length (m₁ .state .nodes)) slot
+      (node-inside full n _ is (p .eachNode)) in
       let a = P.join full (m₁ .store) (m₁ .state) ok i j w (record { sound = ok; index = j; answer = formed; room = f })
       (length (m₁ .state .held)) (p .eachHeld ∙ sym (p .eachNode)) in
       due-queued full m n h w (room-is ∙ f) enlisted (joins full full-sound n i is slot w formed m₁ h e _ _ (a .after))
@@ -74,13 +62,15 @@ few m fit i h =
     let l : length (counts (m .state .held)) ≡ 17 = length-map (m .state .held) (λ (w : Words). w .0) ∙ p .eachHeld in
     let b : getD (counts (m .state .held)) i 0 ≤ full .limit =
     leb-true _ _ (every-get (λ h. leb h (full .limit)) (counts (m .state .held)) i 0 (o .0) (omega arith)) in
-    let g : getD (counts (m .state .held)) i 0 ≡ getD (m .state .held) i nothing .0 = List·getD-map (λ (w : Words). w .0) (m .state .held) i nothing in
+    let g : getD (counts (m .state .held)) i 0 ≡ getD (m .state .held) i nothing .0 = List·getD-map (λ (w : Words). w .0) (m .state .held) i
+    nothing in
     let a = P.answers-held full (m .store) (m .state) (sound m fit) i (omega (arith, p .eachNode)) in
     omega arith
 
 -- m has the lists before a sweep, m₁ after it
 pub enlistable : (m m₁ : Machine) → unfit full m ≡ 0 → unfit full m₁ ≡ 0 → (i : ℕ) → i < 17 → (w : List ℕ)
-    → wellFormed full (nodeAt full i) w ≡ true → Enlistable full (m .state .held) i (getD (m₁ .state .nodes) i blank) (length w) (length (m .store))
+    → wellFormed full (nodeAt full i) w ≡ true → Enlistable full (m .state .held) i (getD (m₁ .state .nodes) i blank) (length w)
+    (length (m .store))
 enlistable m m₁ fit fit₁ i h w formed = record {
   size = parts full m fit .store;
   bounds = bounds m fit;

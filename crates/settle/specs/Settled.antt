@@ -36,7 +36,8 @@ pub record Seat (n : ℕ) (own : Node) (x : Reader) (held : List Words) (s : Sta
 
 -- the state with what a call made of them
 abbrev pub seated : State → ℕ → Seated → State
-seated s n r = record { name = s .name; readers = set (s .readers) (n - 1) (r .reader); nodes = set (s .nodes) (n - 1) (r .node); held = r .held }
+seated s n r = record
+    { name = s .name; readers = set (s .readers) (n - 1) (r .reader); nodes = set (s .nodes) (n - 1) (r .node); held = r .held }
 
 -- they are parts of a consistent machine
 pub record Seatable (b : Bench) (n : ℕ) (own : Node) (x : Reader) (held : List Words) (store memory : List ℕ) : Type 0 where

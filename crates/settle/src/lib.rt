@@ -10,6 +10,7 @@ use state::reader::Reader;
 use store::Broom;
 use store::enlist;
 use store::swept;
+use units::NODES;
 use units::Words;
 ghost use Prim.Native.Nat.{ℕ};
 ghost use mathlib.Core.List.{List};
@@ -21,7 +22,7 @@ ghost use Rattle.settle.specs.Settled.{Seatable, Settles, Houseable, Hou
 // A reader's node, the words that all nodes hold, and the reader, after a call; and what is said.
 pub struct Seated {
     pub node: Node,
-    pub held: [Words; 17],
+    pub held: [Words; NODES],
     pub reader: Reader,
     pub reply: Reply,
 }
@@ -31,7 +32,7 @@ pub fn seat(
     node: u8,
     own: Node,
     x: Reader,
-    held: [Words; 17],
+    held: [Words; NODES],
     d: Decided,
     answer: &[u16],
     store: &mut [u16],
@@ -74,16 +75,16 @@ pub fn seat(
 
 // All nodes, the words that they hold, and the gateway's name, after a call; and what is said.
 pub struct Housed {
-    pub nodes: [Node; 17],
-    pub held: [Words; 17],
+    pub nodes: [Node; NODES],
+    pub held: [Words; NODES],
     pub name: Name,
     pub reply: Reply,
 }
 
 // A call decided at the gateway's own node.
 pub fn house(
-    nodes: [Node; 17],
-    held: [Words; 17],
+    nodes: [Node; NODES],
+    held: [Words; NODES],
     name: Name,
     d: Ruled,
     answer: &[u16],

@@ -1,9 +1,7 @@
 -- Every row of the closed cases of refusals 1 and 2, and of what a machine means, holds; the checker computes them.
 -- Assumes nothing.
-use Prim.Native.Nat.{ℕ}
-use mathlib.Core.Path.{_≡_, refl}
-use mathlib.Core.List.{[]}
-use Rattle.meaning.specs.Cases.{unheld}
+use Rattle.units.proofs.Common.{_≡_, refl, [], ℕ}
+use Rattle.meaning.proofs.Terms.{unheld}
 use Rattle.meaning.proofs.Opened.{responseRead, gateway}
 use Rattle.state.specs.State.{emptiedNode, resetNode}
 use Rattle.state.specs.Layout.{laid, allLaid, storeOf, cuts, past}

@@ -1,24 +1,13 @@
 -- The store read and laid: each undoes the other. So state and store follow from what they mean, to the last word. Any bench.
 -- Assumes nothing.
-use Prim.Native.Nat.{ℕ, zero, suc, _-_, _*_, _≤_, _<_}
-use mathlib.Core.Path.{_≡_, refl, sym, ap, _∙_}
-use mathlib.Core.Bool.{true, false≢true}
-use mathlib.Core.List.{List, [], _∷_, _++_, map, append-assoc}
-use native.Mathlib.Omega.{arith}
+use Rattle.units.proofs.Common.{sym, _∙_, _≡_, refl, ap, true, false≢true, List, [], _∷_, _++_, map, append-assoc, ℕ, _≤_, _-_, _<_, suc}
+use Rattle.units.proofs.Common.{_*_, zero, arith, eqb, length, getD, replicate, length-append, length-replicate, List·getD-map}
+use Rattle.units.proofs.Common.{List·getD-append, take-append-drop, eq-eqb, eqb-true, every, and-true}
 use native.Mathlib.Nat.{mul-suc}
-use lib.Dec.{eqb}
-use lib.ListN.{length, getD, replicate, length-append, length-replicate, take-append-drop, List·getD-append, List·getD-map}
 use lib.Seq.{take-append-seam, drop-append-seam}
-use borrow.Author.Tests.{eqb-true, eq-eqb}
-use Rattle.units.specs.Count.{every}
 use Rattle.units.specs.declared.Words.{Words}
-use Rattle.units.proofs.Choice.{and-true}
-use Rattle.meaning.specs.Bench.{Bench}
-use Rattle.meaning.specs.Call.{same}
+use Rattle.meaning.proofs.Terms.{Bench, same, wordNo, wellFormed, added, held}
 use Rattle.meaning.specs.Gateway as M
-use Rattle.meaning.specs.Packet.{wordNo}
-use Rattle.meaning.specs.Response.{wellFormed}
-use Rattle.meaning.specs.Room.{added, held}
 use Rattle.state.specs.State.{freshNode}
 use Rattle.state.specs.Layout.{laid, allLaid, storeOf, front, behind, cuts, past}
 use Rattle.state.specs.Machine.{nodesIn, plain}

@@ -1,27 +1,17 @@
 -- What joins, leaves and is emptied, by the meaning: each change of state and store keeps them packed. Any bench.
 -- Assumes nothing.
-use Prim.Native.Nat.{ℕ, zero, suc, _+_, _-_, _≤_, _<_}
-use mathlib.Core.Path.{_≡_, refl, sym, ap, _∙_}
-use mathlib.Core.Bool.{true}
-use mathlib.Core.List.{List, [], _∷_, _++_, map, append-assoc, append-nil}
-use native.Mathlib.Nat.{add-zero, zero-add, add-suc, suc-add}
-use native.Mathlib.Omega.{arith}
-use lib.Dec.{leb}
-use lib.ListN.{length, take, drop, getD, set, replicate, length-append, length-replicate, length-map, List·getD-map}
-use lib.Seq.{getD-append-add, take-suc, take-length, drop-at, set-getD, set-split}
-use borrow.Author.Tests.{leb-true, le-leb, ne-eqb}
-use Rattle.units.specs.Count.{every}
+use Rattle.units.proofs.Common.{sym, _∙_, _≡_, refl, ap, true, List, [], _∷_, _++_, map, append-assoc, append-nil, ℕ, _≤_, _-_, _+_, _<_}
+use Rattle.units.proofs.Common.{suc, zero, add-zero, zero-add, arith, leb, length, drop, getD, take, set, replicate, length-append}
+use Rattle.units.proofs.Common.{length-map, length-replicate, List·getD-map, drop-at, take-suc, set-getD, getD-append-add, set-split}
+use Rattle.units.proofs.Common.{ne-eqb, le-leb, leb-true, every, and-true, no-cond}
+use native.Mathlib.Nat.{add-suc, suc-add}
+use lib.Seq.{take-length}
 use Rattle.units.specs.declared.Words.{Words}
-use Rattle.units.proofs.Choice.{and-true, no-cond}
-use Rattle.meaning.specs.Bench.{Bench}
+use Rattle.meaning.proofs.Terms.{Bench, joined, taken, emptied, swept, clearing, resetting, wellFormed, added, held}
 use Rattle.meaning.specs.Gateway as M
-use Rattle.meaning.specs.Gateway.{joined, taken, emptied, swept, clearing, resetting}
-use Rattle.meaning.specs.Response.{wellFormed}
-use Rattle.meaning.specs.Room.{added, held}
-use Rattle.state.specs.State.{nothing, freshNode, joinedNode, takenNode, emptiedNode, resetNode}
-use Rattle.state.specs.Layout.{laid, allLaid}
-use Rattle.state.specs.Machine.{plain}
-use Rattle.state.specs.Consistent.{nodeAt, formed, chargesOf, bounded, counts}
+use Rattle.state.proofs.Terms.{nothing, freshNode, joinedNode, takenNode, emptiedNode, laid, allLaid, plain, nodeAt, formed, chargesOf}
+use Rattle.state.proofs.Terms.{bounded, counts}
+use Rattle.state.specs.State.{resetNode}
 use Rattle.state.specs.declared.node.Node.{Node}
 use Rattle.state.proofs.Formed.{formed-says, added-append}
 use Rattle.state.proofs.Lists.{both, map-set, every-get, every-set, every-more}
@@ -94,7 +84,8 @@ module _ (b : Bench) where
   pub laid-fits : (ms : List M.Node) → formed b 0 ms ≡ true → bounded b (map held ms) ≡ true → length (allLaid ms) ≤ b .store
   unfolding bounded
   laid-fits ms h o =
-      let c : chargesOf (b .share) (map held ms) ≤ b .store = leb-true _ _ (and-true (every (λ h. leb h (b .limit)) (map held ms)) _ o .1) in
+      let c : chargesOf (b .share) (map held ms) ≤ b .store = leb-true _ _
+      (and-true (every (λ h. leb h (b .limit)) (map held ms)) _ o .1) in
       omega (arith, laid-charged 0 ms h)
 
   -- ---- fewer words keep the bounds
@@ -172,7 +163,8 @@ module _ (b : Bench) (store : List ℕ) (ns : List Node) (hs : List Words) (ms :
         rw (p .helds, place-is b 0 ms (suc i) (p .formed), e)
 
     pub packed-joined : (a : List ℕ) → wellFormed b (nodeAt b i) a ≡ true → bounded b (map held (set ms i (joined a m))) ≡ true
-        → Packed b (inserted store (placeOf (counts hs) (suc i)) (placeOf (counts hs) (length ms)) a) (set ns i (joinedNode (getD ns i freshNode)))
+        → Packed b (inserted store (placeOf (counts hs) (suc i)) (placeOf (counts hs) (length ms)) a)
+        (set ns i (joinedNode (getD ns i freshNode)))
         (set hs i (record { 0 = getD hs i nothing .0 + length a })) (set ms i (joined a m))
     unfolding joined laid added
     packed-joined a f o =
@@ -180,7 +172,8 @@ module _ (b : Bench) (store : List ℕ) (ns : List Node) (hs : List Words) (ms :
         let g : every (wellFormed b (nodeAt b i)) (m .pending) ≡ true = rw zero-add at (formed-at b 0 ms i (p .formed) h) in
         let k : every (wellFormed b (nodeAt b i)) (x .pending) ≡ true = every-more (wellFormed b (nodeAt b i)) (m .pending) a g f in
         let v : laid (x .pending) ≡ laid (m .pending) ++ a = laid-append (m .pending) (a ∷ []) ∙ rw append-nil in
-        let fits : length (allLaid (set ms i x)) ≤ b .store = laid-fits b (set ms i x) (formed-set b 0 ms i x (p .formed) (rw zero-add k)) o in
+        let fits : length (allLaid (set ms i x)) ≤ b .store = laid-fits b (set ms i x) (formed-set b 0 ms i x (p .formed) (rw zero-add k))
+        o in
         let len : length (allLaid (set ms i x)) ≡ length before + ((length (laid (m .pending)) + length a) + length after) =
         ap length (all-set ms i x h) ∙ rw v (simp length-append) in
         let size : length store ≡ length before + (length (laid (m .pending)) + (length after + p .spare)) =
@@ -192,7 +185,8 @@ module _ (b : Bench) (store : List ℕ) (ns : List Node) (hs : List Words) (ms :
         ∙ sym (append-assoc before (laid (m .pending)) (after ++ replicate (length a + z) 0)) in
         let end : placeOf (counts hs) (length ms) ≡ length (before ++ laid (m .pending)) + length after =
         end-is ∙ all-size ∙ rw length-append (omega arith) in
-        let w : inserted store (placeOf (counts hs) (suc i)) (placeOf (counts hs) (length ms)) a ≡ before ++ (laid (x .pending) ++ (after ++ replicate z 0)) =
+        let w : inserted store (placeOf (counts hs) (suc i)) (placeOf (counts hs) (length ms)) a ≡ before ++
+        (laid (x .pending) ++ (after ++ replicate z 0)) =
         rw (place-next, end, v) (inserted-at store (before ++ laid (m .pending)) after a z st ∙ simp append-assoc) in
         let l : length (inserted store (placeOf (counts hs) (suc i)) (placeOf (counts hs) (length ms)) a) ≡ b .store =
         ap length w ∙ rw v (simp (length-append, length-replicate) (omega (arith, p .size))) in
@@ -206,7 +200,8 @@ module _ (b : Bench) (store : List ℕ) (ns : List Node) (hs : List Words) (ms :
       pub oldest-formed : (wellFormed b (nodeAt b i) a ≡ true) × (every (wellFormed b (nodeAt b i)) rest ≡ true)
       unfolding every
       oldest-formed =
-          and-true (wellFormed b (nodeAt b i) a) (every (wellFormed b (nodeAt b i)) rest) (rw (zero-add, e) at (formed-at b 0 ms i (p .formed) h))
+          and-true (wellFormed b (nodeAt b i) a) (every (wellFormed b (nodeAt b i)) rest)
+          (rw (zero-add, e) at (formed-at b 0 ms i (p .formed) h))
 
       abbrev beyond : List ℕ
       beyond = (laid rest ++ after) ++ replicate (p .spare) 0
@@ -250,12 +245,14 @@ module _ (b : Bench) (store : List ℕ) (ns : List Node) (hs : List Words) (ms :
           let l : length (removed store (placeOf (counts hs) i) (placeOf (counts hs) (length ms)) (length a)) ≡ b .store =
           ap length w ∙ rw q (simp (length-append, length-replicate) (omega (arith, p .size))) in
           let k : i < length (map held ms) = rw length-map h in
-          packed-set x _ _ _ (length a + p .spare) (rw (node-is, c)) (rw (held-is, oldest-held) (omega (arith, y))) w l (rw q (oldest-formed .1))
+          packed-set x _ _ _ (length a + p .spare) (rw (node-is, c)) (rw (held-is, oldest-held) (omega (arith, y))) w l
+          (rw q (oldest-formed .1))
           (rw map-set (less-bounded b (map held ms) i (held x) k (omega (arith, g, oldest-held, y)) (p .bounds)))
 
 -- ---- all lists emptied
 -- f is what a command makes of a node that is meant, g of a node: nothing is pending after it
-module _ (f : M.Node → M.Node) (g : Node → Node) (same : (m : M.Node) → g (nodeFor m) ≡ nodeFor (f m)) (none : (m : M.Node) → f m .pending ≡ []) where
+module _ (f : M.Node → M.Node) (g : Node → Node) (same : (m : M.Node) → g (nodeFor m) ≡ nodeFor (f m))
+    (none : (m : M.Node) → f m .pending ≡ []) where
   none-laid : (ms : List M.Node) → allLaid (map f ms) ≡ []
   unfolding allLaid laid
   none-laid [] = refl

@@ -1,22 +1,12 @@
 -- Lists swept, and an answer enlisted: swept words keep the bounds, places lie in the store, counts fit. Any bench.
 -- Assumes nothing.
-use Prim.Native.Nat.{ℕ, _+_, _≤_, _<_}
-use mathlib.Core.Path.{_≡_, refl}
-use mathlib.Core.Bool.{true, not}
-use mathlib.Core.List.{List, [], _∷_}
-use native.Mathlib.Omega.{arith}
-use lib.Dec.{T, eqb, leb}
-use lib.ListN.{length, getD, set, replicate, length-replicate}
+use Rattle.units.proofs.Common.{_≡_, refl, true, not, List, [], _∷_, ℕ, _≤_, _+_, _<_, arith, eqb, leb, T, length, getD, set, replicate}
+use Rattle.units.proofs.Common.{length-replicate, le-leb, leb-true, every, keys, and-true}
 use types.Run.{OneOf}
 use denote.Enum.Declared.{tagOf}
-use borrow.Author.Tests.{leb-true, le-leb}
-use Rattle.units.specs.Count.{every}
 use Rattle.units.specs.declared.Words.{Words}
-use Rattle.units.proofs.Arms.{keys}
-use Rattle.units.proofs.Choice.{and-true}
-use Rattle.meaning.specs.Bench.{Bench}
-use Rattle.state.specs.State.{nothing}
-use Rattle.state.specs.Consistent.{chargesOf, bounded, counts}
+use Rattle.meaning.proofs.Terms.{Bench}
+use Rattle.state.proofs.Terms.{nothing, chargesOf, bounded, counts}
 use Rattle.state.proofs.Lists.{both}
 use Rattle.lists.specs.Room.{roomFor, placeOf}
 use Rattle.lists.proofs.Charges.{count-at, length-words}
@@ -68,8 +58,7 @@ pub place-inside : (b : Bench) (hs : List ℕ) (k : ℕ) → bounded b hs ≡ tr
 place-inside b hs k o = omega (arith, place-in hs k, bounded-sum b hs o)
 
 pub place-ordered : (hs : List Words) (i k : ℕ) → length hs ≤ k → placeOf (counts hs) i ≤ placeOf (counts hs) k
-place-ordered hs i k l =
-    omega (arith, place-in (counts hs) i, place-all (counts hs) k (omega (arith, length-words hs)))
+place-ordered hs i k l = omega (arith, place-in (counts hs) i, place-all (counts hs) k (omega (arith, length-words hs)))
 
 -- ---- an answer that has room: it fits behind all others, and its node's count stays small
 module _ (b : Bench) (hs : List Words) (i words : ℕ) (r : roomFor b (counts hs) i words ≡ true) where

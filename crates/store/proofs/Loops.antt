@@ -1,12 +1,7 @@
 -- One turn more of a loop over the nodes.
 -- Assumes nothing.
-use Prim.Native.Nat.{ℕ, _+_, _<_}
-use mathlib.Core.Path.{_≡_}
-use mathlib.Core.List.{List, [], _∷_, _++_, map}
-use native.Mathlib.Numerals.{add-one}
-use native.Mathlib.Omega.{arith}
-use lib.ListN.{length, take, drop, getD, set, length-map}
-use lib.Seq.{take-suc, length-take-le}
+use Rattle.units.proofs.Common.{_≡_, List, [], _∷_, _++_, map, ℕ, _+_, _<_, add-one, arith, length, drop, getD, take, set, length-map}
+use Rattle.units.proofs.Common.{length-take-le, take-suc}
 use Rattle.state.specs.declared.node.Node.{Node}
 use Rattle.state.proofs.Lists.{map-append, more-written}
 

@@ -1,28 +1,15 @@
 -- The changes as the code promises them, and what the code has to know to make them: places lie in the store, counts fit. Any bench.
 -- Assumes nothing.
-use Prim.Native.Nat.{ℕ, zero, suc, _+_, _-_, _*_, _≤_, _<_}
-use mathlib.Core.Path.{_≡_, refl, sym, ap, _∙_}
-use mathlib.Core.Bool.{true}
-use mathlib.Core.List.{List, [], _∷_, map}
-use native.Mathlib.Omega.{arith}
-use native.Mathlib.Numerals.{add-one}
-use native.Mathlib.Nat.{add-zero}
-use lib.Dec.{leb}
-use lib.ListN.{length, getD, drop, set, replicate, length-map, length-append, length-replicate, List·getD-map}
-use borrow.Author.Tests.{leb-true}
-use Rattle.units.specs.Count.{every}
+use Rattle.units.proofs.Common.{sym, _∙_, _≡_, refl, ap, true, List, [], _∷_, map, ℕ, _≤_, _-_, _+_, _<_, suc, _*_, zero, add-zero, add-one}
+use Rattle.units.proofs.Common.{arith, leb, length, drop, getD, set, replicate, length-append, length-map, length-replicate, List·getD-map}
+use Rattle.units.proofs.Common.{leb-true, every, and-true}
 use Rattle.units.specs.declared.Words.{Words}
-use Rattle.units.proofs.Choice.{and-true}
-use Rattle.meaning.specs.Bench.{Bench}
+use Rattle.meaning.proofs.Terms.{Bench, joined, swept, clearing, resetting, overall, wellFormed, added, held}
 use Rattle.meaning.specs.Gateway as M
-use Rattle.meaning.specs.Gateway.{joined, swept, clearing, resetting}
-use Rattle.meaning.specs.Packet.{overall}
-use Rattle.meaning.specs.Response.{wellFormed}
-use Rattle.meaning.specs.Room.{added, held}
-use Rattle.state.specs.State.{nothing, freshNode, joinedNode, takenNode, emptiedNode, resetNode}
-use Rattle.state.specs.Layout.{allLaid, front}
-use Rattle.state.specs.Machine.{nodesIn, plain}
-use Rattle.state.specs.Consistent.{nodeAt, chargesOf, bounded, counts}
+use Rattle.state.proofs.Terms.{nothing, freshNode, joinedNode, takenNode, emptiedNode, allLaid, nodesIn, plain, nodeAt, chargesOf, bounded}
+use Rattle.state.proofs.Terms.{counts}
+use Rattle.state.specs.State.{resetNode}
+use Rattle.state.specs.Layout.{front}
 use Rattle.state.specs.declared.node.Node.{Node}
 use Rattle.state.specs.declared.State.{State}
 use Rattle.state.proofs.Formed.{formed-least, formed-most, formed-says, added-append}
@@ -33,8 +20,8 @@ use Rattle.moves.proofs.Moves.{removed-at}
 use Rattle.lists.specs.Room.{roomFor, sum, placeOf}
 use Rattle.lists.proofs.Places.{place-suc, place-all, place-in, sum-charges}
 use Rattle.store.specs.Changes.{withLists, Sound, Listed, joinedAt, Joinable, takenAt}
-use Rattle.store.proofs.Changed.{formed-at, end-is, node-is, held-is, packed-joined, oldest-formed, oldest-drop, oldest-long, oldest-held}
-use Rattle.store.proofs.Changed.{packed-taken, packed-cleared, packed-reset}
+use Rattle.store.proofs.Changed.{formed-at, end-is, node-is, held-is, packed-joined, oldest-formed, oldest-drop, oldest-long}
+use Rattle.store.proofs.Changed.{oldest-held, packed-taken, packed-cleared, packed-reset}
 
 -- ---- room kept: both bounds are met after it
 pub room-bounded : (b : Bench) (hs : List ℕ) (i words : ℕ) → bounded b hs ≡ true → roomFor b hs i words ≡ true
@@ -103,7 +90,8 @@ module _ (b : Bench) (store : List ℕ) (s : State) (ok : Sound b store s) where
 
     pub place-after : placeOf hs (i + 1) ≡ placeOf hs i + getD (s .held) i nothing .0
     place-after =
-        place-suc hs i (omega (arith, helds-long)) ∙ ap (λ (k : ℕ). placeOf hs i + k) (List·getD-map (λ (w : Words). w .0) (s .held) i nothing)
+        place-suc hs i (omega (arith, helds-long)) ∙ ap (λ (k : ℕ). placeOf hs i + k)
+        (List·getD-map (λ (w : Words). w .0) (s .held) i nothing)
 
     -- ---- an answer joins
     pub record Join (a : List ℕ) (k : ℕ) : Type 0 where
@@ -112,7 +100,8 @@ module _ (b : Bench) (store : List ℕ) (s : State) (ok : Sound b store s) where
       pub words : getD (s .held) i nothing .0 + length a ≤ b .limit
       pub few : length a ≤ overall 255
       pub after : Listed b store (inserted store (placeOf hs (i + 1)) (placeOf hs k) a) s
-          (withLists s (set ns i (joinedNode (getD ns i blank))) (set (s .held) i (record { 0 = getD (s .held) i nothing .0 + length a }))) (joinedAt ms i a)
+          (withLists s (set ns i (joinedNode (getD ns i blank))) (set (s .held) i (record { 0 = getD (s .held) i nothing .0 + length a })))
+          (joinedAt ms i a)
 
     module _ (a : List ℕ) (j : Joinable b store s i a) where
       room-words : getD hs i 0 + length a ≤ b .limit
@@ -141,7 +130,15 @@ module _ (b : Bench) (store : List ℕ) (s : State) (ok : Sound b store s) where
           let all : placeOf hs k ≡ sum hs = place-all hs k (omega (arith, helds-long)) in
           record {
             ordered = omega (arith, all, place-in hs (i + 1));
-            fits = omega (arith, all, c, sum-charges (b .share) (set hs i (getD hs i 0 + length a)), sum-set hs i (length a) (omega (arith, helds-long)), ok .size);
+            fits = omega (
+              arith,
+              all,
+              c,
+              sum-charges (b .share) (set hs i (getD hs i 0 + length a)),
+              sum-set hs i (length a)
+                  (omega (arith, helds-long)),
+              ok .size,
+            );
             words = omega (arith, room-words);
             few = formed-most b (nodeAt b i) a (j .answer);
             after = rw (l, add-one, node-any ns i h)
@@ -168,7 +165,8 @@ module _ (b : Bench) (store : List ℕ) (s : State) (ok : Sound b store s) where
 
     take-by : 0 < getD ns i freshNode .answers → (k : ℕ) → k ≡ length ns → (as' : List (List ℕ)) → getD ms i plain .pending ≡ as' → Take k
     take-by some k q [] e =
-        let z : getD ns i freshNode .answers ≡ 0 = rw (node-is b store ns (s .held) ms packed-sound i inside) (ap length e) in absurd (omega arith)
+        let z : getD ns i freshNode .answers ≡ 0 = rw (node-is b store ns (s .held) ms packed-sound i inside) (ap length e) in absurd
+        (omega arith)
     take-by some k q (a ∷ r) e =
         let p = packed-sound in
         let l : k ≡ length ms = q ∙ sym (length-nodes store ns) in
@@ -207,7 +205,8 @@ module _ (b : Bench) (store : List ℕ) (s : State) (ok : Sound b store s) where
         let a : List ℕ = allLaid ms in
         let z : ℕ = packed-sound .spare in
         let e : length a + z ≡ length store =
-        sym (ap length (packed-sound .words) ∙ length-append a (replicate z 0) ∙ ap (λ (n : ℕ). length a + n) (length-replicate {A = ℕ} z 0)) in
+        sym (ap length (packed-sound .words) ∙ length-append a (replicate z 0) ∙ ap (λ (n : ℕ). length a + n)
+        (length-replicate {A = ℕ} z 0)) in
         let f : placeOf hs k ≡ 0 + (length a + 0) = end-laid ∙ omega arith in
         ap (λ (n : ℕ). removed store 0 n (placeOf hs k)) f ∙ ap (removed store 0 (0 + (length a + 0))) end-laid
         ∙ removed-at store [] [] a z (packed-sound .words) ∙ ap (λ (n : ℕ). replicate n 0) e

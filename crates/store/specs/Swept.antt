@@ -6,7 +6,7 @@ use mathlib.Core.Bool.{true, false}
 use mathlib.Core.List.{List}
 use lib.ListN.{length, getD, set, replicate}
 use Rattle.units.specs.declared.Words.{Words}
-use Rattle.meaning.specs.Bench.{Bench}
+use Rattle.meaning.specs.Bench.{Bench, nodeCount}
 use Rattle.meaning.specs.Gateway.{Sweep, none, clearing, resetting}
 use Rattle.meaning.specs.Packet.{overall}
 use Rattle.state.specs.State.{nothing, joinedNode, emptiedNode, resetNode}
@@ -48,7 +48,7 @@ sweptStore B.Reset hs store = wiped hs store
 pub record Enlistable (b : Bench) (hs : List Words) (i : ℕ) (own : Node) (answer store : ℕ) : Type 0 where
   pub size : store ≡ b .store
   pub bounds : bounded b (counts hs) ≡ true
-  pub index : i < b .readers + 1
+  pub index : i < nodeCount b
   pub few : own .answers < 65535
   pub short : answer ≤ overall 255
 
@@ -73,12 +73,12 @@ oldestAt hs i store = getD store (placeOf (counts hs) i) 0
 
 -- one that stands there: within the node's words, and all words within the store
 pub record Takeable (b : Bench) (hs : List Words) (i : ℕ) (store : List ℕ) : Type 0 where
-  pub index : i < b .readers + 1
+  pub index : i < nodeCount b
   pub least : 1 ≤ oldestAt hs i store
   pub own : oldestAt hs i store ≤ getD hs i nothing .0
-  pub before : placeOf (counts hs) i + oldestAt hs i store ≤ placeOf (counts hs) (b .readers + 1)
-  pub inside : placeOf (counts hs) (b .readers + 1) ≤ length store
+  pub before : placeOf (counts hs) i + oldestAt hs i store ≤ placeOf (counts hs) (nodeCount b)
+  pub inside : placeOf (counts hs) (nodeCount b) ≤ length store
 
 pub record Takes (b : Bench) (hs : List Words) (i : ℕ) (store store′ : List ℕ) (r : List Words) : Type 0 where
   pub held : r ≡ set hs i (record { 0 = getD hs i nothing .0 - oldestAt hs i store })
-  pub words : store′ ≡ removed store (placeOf (counts hs) i) (placeOf (counts hs) (b .readers + 1)) (oldestAt hs i store)
+  pub words : store′ ≡ removed store (placeOf (counts hs) i) (placeOf (counts hs) (nodeCount b)) (oldestAt hs i store)

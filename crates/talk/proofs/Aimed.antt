@@ -1,21 +1,12 @@
 -- Whom a line is for, by what the code found of it: a refusal's number, or none.
 -- Assumes nothing.
-use Prim.Native.Nat.{ℕ, _≤_, _<_}
-use mathlib.Core.Path.{_≡_, refl, sym, ap, _∙_}
-use mathlib.Core.Bool.{Bool, true, false, not}
-use mathlib.Core.List.{List}
-use lib.Dec.{eqb}
-use lib.ListN.{take}
-use borrow.Author.Tests.{eq-eqb, ne-eqb, le-leb, lt-leb}
-use Rattle.units.specs.Count.{within}
-use Rattle.units.specs.Stamp.{isStamp}
+use Rattle.units.proofs.Common.{sym, _∙_, _≡_, refl, ap, true, false, Bool, not, List, ℕ, _≤_, _<_, eqb, take, eq-eqb, ne-eqb, le-leb}
+use Rattle.units.proofs.Common.{lt-leb, within, isStamp, yes-cond, no-cond, yes-and, no-and}
 use Rattle.units.specs.declared.Form.{Form}
 use Rattle.units.specs.declared.Words.{Words}
 use Rattle.units.specs.declared.Bytes.{Bytes}
 use Rattle.units.specs.declared.stamp.Stamp.{Stamp}
-use Rattle.units.proofs.Choice.{yes-cond, no-cond, yes-and, no-and}
-use Rattle.meaning.specs.Bench.{full, hub, isReader, isNode}
-use Rattle.meaning.specs.Call.{command, asked, judged, commandIn, kindIn}
+use Rattle.meaning.proofs.Terms.{full, hub, isReader, isNode, command, asked, judged, commandIn, kindIn}
 use Rattle.meaning.specs.declared.table.Kind.{Kind}
 use Rattle.meaning.specs.declared.packet.Command.{Command}
 use Rattle.meaning.proofs.Chain.{none, this, pass-if, stop-if}
@@ -28,8 +19,7 @@ use Rattle.talk.specs.declared.aim.Whom.{Whom}
 use Rattle.talk.specs.Aim.{unlessRefused, arriveRefusal, orderOf, forNode, aimed}
 
 stops : {k : ℕ} (j : ℕ) (w : Whom) → k ≡ j → eqb j 0 ≡ false → Whom.Nobody (Aside.Refused j) ≡ unlessRefused k w
-stops {k} j w e z =
-    sym (no-cond w (ap (λ (i : ℕ). eqb i 0) e ∙ z) ∙ ap (λ (i : ℕ). Whom.Nobody (Aside.Refused i)) e)
+stops {k} j w e z = sym (no-cond w (ap (λ (i : ℕ). eqb i 0) e ∙ z) ∙ ap (λ (i : ℕ). Whom.Nobody (Aside.Refused i)) e)
 
 goes : {k : ℕ} (w : Whom) → k ≡ 0 → w ≡ unlessRefused k w
 goes {k} w e = sym (yes-cond (Whom.Nobody (Aside.Refused k)) (eq-eqb k 0 e))

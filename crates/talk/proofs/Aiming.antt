@@ -1,27 +1,14 @@
 -- For a caller that reads a line, aims it and plays it: what whom it is for says of the line and of what stands in the buffers.
 -- Assumes nothing.
-use Prim.Native.Nat.{ℕ, _≤_}
-use mathlib.Core.Path.{_≡_, refl, sym, ap, _∙_, subst}
-use mathlib.Core.Bool.{Bool, true, false, not, cond}
-use mathlib.Core.List.{List}
-use native.Mathlib.Omega.{arith}
-use lib.Dec.{eqb}
-use lib.ListN.{length, take}
-use lib.Seq.{length-take-le}
-use borrow.Author.Tests.{eqb-true, eqb-false, not-false}
-use Rattle.units.specs.Packing.{onto}
-use Rattle.units.specs.Stamp.{isStamp}
+use Rattle.units.proofs.Common.{sym, _∙_, _≡_, refl, ap, subst, true, false, Bool, cond, not, List, ℕ, _≤_, arith, eqb, length, take}
+use Rattle.units.proofs.Common.{length-take-le, not-false, eqb-true, eqb-false, isStamp}
 use Rattle.units.specs.declared.Form.{Form}
 use Rattle.units.specs.declared.Words.{Words}
 use Rattle.units.specs.declared.stamp.Stamp.{Stamp}
-use Rattle.units.proofs.PackingLaws.{length-onto}
-use Rattle.meaning.specs.Refusal.{_when_}
-use Rattle.meaning.specs.Bench.{full, hub, isReader, isNode}
+use Rattle.meaning.proofs.Terms.{_when_, full, hub, isReader, isNode, Call, command, check, arrive, leave, judged}
 use Rattle.meaning.specs.Call as M
-use Rattle.meaning.specs.Call.{Call, command, check, arrive, leave, judged}
 use Rattle.meaning.proofs.Chain.{accepts, fine}
-use Rattle.state.specs.Machine.{Machine, meaning}
-use Rattle.state.specs.Consistent.{unfit}
+use Rattle.state.proofs.Terms.{Machine, meaning, unfit}
 use Rattle.promise.proofs.Parts.{parts}
 use Rattle.promise.proofs.Promises.{does-refused}
 use Rattle.promise.proofs.Steps.{step-refused}
@@ -31,20 +18,20 @@ use Rattle.obey.proofs.Packets as P
 use Rattle.text.specs.Text.{Put}
 use Rattle.listingout.proofs.Rooms.{refused-short}
 use Rattle.dialog.specs.Spoken.{call, spoken}
-use Rattle.dialog.specs.Dialog.{saidLine}
+use Rattle.dialog.specs.Dialog.{saidLine, replyTo}
+use Rattle.dialogout.proofs.Rooms.{length-unreadable}
+use Rattle.demands.specs.Sound.{full-sound}
 use Rattle.lines.specs.declared.Heard.{Heard}
-use Rattle.lines.specs.Heard.{heardOf, wordsIn, idIn, bytesIn}
-use Rattle.lines.proofs.Told.{told-passed, told-unreadable, told-check, told-leave, told-collect, told-acknowledge}
 use Rattle.talk.specs.declared.aim.Aside.{Aside}
 use Rattle.talk.specs.declared.aim.Want.{Want}
 use Rattle.talk.specs.declared.aim.Order.{Order}
 use Rattle.talk.specs.declared.aim.Ask.{Ask}
 use Rattle.talk.specs.declared.aim.Whom.{Whom}
-use Rattle.talk.specs.Talk.{Plays}
-use Rattle.talk.specs.Aim.{unlessRefused, arriveRefusal, orderOf, forNode, aimed, Fits, asideLine, Lies, asked, Orders, Asks, wanted}
+use Rattle.talk.specs.Talk.{Plays, Follows}
+use Rattle.talk.specs.Aim.{unlessRefused, arriveRefusal, orderOf, forNode, aimed, asideLine, Lies, asked, Orders, Asks, wanted}
 use Rattle.talk.proofs.Numbers.{judged-most}
-use Rattle.talk.proofs.Hearing.{command-heard, arrive-heard, store-heard}
-use Rattle.talk.proofs.Talking.{plays-passed, plays-unreadable, plays-look, plays-call}
+use Rattle.talk.proofs.Hearing.{Told, Buffered}
+use Rattle.talk.proofs.Talking.{played, plays-look, plays-call}
 
 -- ---- what a line is, by whom it is for
 pub record ForNobody (line : List ℕ) (a : Aside) : Type 0 where
@@ -65,19 +52,6 @@ pub record ForGateway (line : List ℕ) (o : Order) (words : List ℕ) : Type 0 
   pub orders : Orders full words o
   pub own : o .what .node ≡ hub
   pub says : spoken line ≡ call (command (o .stamp) (o .form) (take (o .words .0) words))
-
--- what stands in the buffers of 256 words, 16 and 2,047 bytes, as `read_line` leaves it
-pub record Buffered (line : List ℕ) (h : Heard) (words id bytes : List ℕ) : Type 0 where
-  pub said : h ≡ heardOf (spoken line)
-  pub words₀ : List ℕ
-  pub id₀ : List ℕ
-  pub bytes₀ : List ℕ
-  pub room-words : length words₀ ≡ 256
-  pub room-id : length id₀ ≡ 16
-  pub room-bytes : length bytes₀ ≡ 2047
-  pub words-are : words ≡ onto (wordsIn (spoken line)) words₀
-  pub id-is : id ≡ onto (idIn (spoken line)) id₀
-  pub bytes-are : bytes ≡ onto (bytesIn (spoken line)) bytes₀
 
 -- ---- a call's node, which it is not refused for
 check-reader : (n : ℕ) (t : Stamp) (clock : ℕ) → judged full (check n t clock) ≡ 0 → isReader full n ≡ true
@@ -112,7 +86,7 @@ module _ (line words id bytes : List ℕ) where
   unfolding Lies asideLine saidLine
   refuses c e {k} j d = record {
     lies = tt;
-    plays = λ {m} fit p. plays-call full m fit c e (instead (step-refused full (meaning full m) c k j d) (does-refused full m k)) p
+    plays = λ {m} fit p. plays-call c e (instead (step-refused full (meaning full m) c k j d) (does-refused full m k)) p
         (omega (arith, p .next, j, judged-most c, refused-short k (omega (arith, j, judged-most c))));
   }
 
@@ -150,62 +124,34 @@ module _ (line words id bytes : List ℕ) where
         says = e;
       }
 
-  by-case : (h : Heard) → Buffered line h words id bytes → Aimed (aimed full h words)
-  unfolding Aimed aimed Lies asideLine asked Asks wanted
-  by-case Heard.Passed b = record { lies = tt; plays = λ {m} fit p. plays-passed full m fit (told-passed (spoken line) (sym (b .said))) p }
-  by-case Heard.Unreadable b = record {
-    lies = tt;
-    plays = λ {m} fit p. plays-unreadable full m fit (told-unreadable (spoken line) (sym (b .said))) p;
+  by-case : (h : Heard) → Told (spoken line) h words id bytes → Aimed (aimed full h words)
+  unfolding Aimed aimed Lies asideLine asked Asks wanted Told replyTo Follows
+  by-case Heard.Passed e = record { lies = tt; plays = λ fit p. played e p refl (omega (arith, p .next)) }
+  by-case Heard.Unreadable e = record { lies = tt; plays = λ fit p. played e p refl (omega (arith, p .next, length-unreadable)) }
+  by-case (Heard.Store first count) (e, few, inside) = record {
+    lies = (inside, few);
+    plays = λ {m} fit p. plays-look full-sound fit first count e few (omega (arith, inside, parts full m fit .store)) p;
   }
-  by-case (Heard.Store first count) b =
-      let (e, (few, inside)) = store-heard line (b .said) first count refl in
-      record {
-        lies = (inside, few);
-        plays = λ {m} fit p. plays-look full m fit first count e (few, omega (arith, inside, parts full m fit .store)) p;
-      }
-  by-case (Heard.Command t f n) b =
-      let (l, e) = command-heard line (b .said) (b .words₀) words refl (b .room-words) (b .words-are) in
+  by-case (Heard.Command t f n) (e, l) =
       unless (command t f (take (n .0) words)) e _ refl (forNode full (orderOf full t f n words)) (ordered t f n l e)
-  by-case (Heard.Check n t clock) b =
-      let e = told-check (spoken line) n t clock (sym (b .said)) in
+  by-case (Heard.Check n t clock) e =
       unless (check n t clock) e _ refl (Whom.Reader n (Ask.Check t clock))
       (λ j. record { is = check-reader n t clock j; asks = j; says = e })
-  by-case (Heard.Arrive n i k) b =
-      let (l, (g, e)) =
-      arrive-heard line (b .said) (b .id₀) id (b .bytes₀) bytes refl (b .room-id) (b .room-bytes) (b .id-is) (b .bytes-are) in
+  by-case (Heard.Arrive n i k) (e, l, g) =
       unless (arrive n (take (i .0) id) (take (k .0) bytes)) e _
       (arrive-judged n (take (i .0) id) (take (k .0) bytes) (length-take-le (i .0) id l) (length-take-le (k .0) bytes g))
       (Whom.Reader n (Ask.Arrive i k))
       (λ j. record { is = limits n (take (i .0) id) (take (k .0) bytes) j .reader; asks = (l, g, j); says = e })
-  by-case (Heard.Leave n) b =
-      let e = told-leave (spoken line) n (sym (b .said)) in
+  by-case (Heard.Leave n) e =
       unless (leave n) e _ refl (Whom.Reader n Ask.Leave) (λ j. record { is = leave-reader n j; asks = j; says = e })
-  by-case (Heard.Collect n f) b = listed n (Want.Collect f) (told-collect line n f (sym (b .said)))
-  by-case (Heard.Acknowledge n k) b = listed n (Want.Acknowledge k) (told-acknowledge (spoken line) n k (sym (b .said)))
+  by-case (Heard.Collect n f) e = listed n (Want.Collect f) e
+  by-case (Heard.Acknowledge n k) e = listed n (Want.Acknowledge k) e
 
 -- ---- for callers
 module _ {line words id bytes : List ℕ} {h : Heard} (b : Buffered line h words id bytes) where
-  -- a packet's words stand in its buffer
-  pub buffered-fits : Fits h 256
-  unfolding Fits
-  buffered-fits = go h b
-    where
-      go : (h : Heard) → Buffered line h words id bytes → Fits h 256
-      go Heard.Passed b = tt
-      go Heard.Unreadable b = tt
-      go (Heard.Store first count) b = tt
-      go (Heard.Command t f n) b =
-          let l = command-heard line (b .said) (b .words₀) words refl (b .room-words) (b .words-are) .0 in
-          omega (arith, l, ap length (b .words-are), length-onto (wordsIn (spoken line)) (b .words₀), b .room-words)
-      go (Heard.Check n t clock) b = tt
-      go (Heard.Arrive n i k) b = tt
-      go (Heard.Leave n) b = tt
-      go (Heard.Collect n f) b = tt
-      go (Heard.Acknowledge n k) b = tt
-
   module _ {whom : Whom} (aim : whom ≡ aimed full h words) where
     so : {w : Whom} → whom ≡ w → Aimed line words id bytes w
-    so e = subst (Aimed line words id bytes) (sym aim ∙ e) (by-case line words id bytes h b)
+    so e = subst (Aimed line words id bytes) (sym aim ∙ e) (by-case line words id bytes h (b .tells))
 
     pub for-nobody : {a : Aside} → whom ≡ Whom.Nobody a → ForNobody line a
     unfolding Aimed

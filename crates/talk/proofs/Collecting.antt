@@ -1,19 +1,11 @@
 -- An answer collected at its list: that there is none is said, or its words and the handover number; the gateway stays as it is.
 -- Assumes nothing.
-use Prim.Native.Nat.{ℕ, _+_, _-_, _^_, _≤_, _<_}
-use mathlib.Core.Path.{_≡_, refl, sym, ap, _∙_, subst}
-use mathlib.Core.Bool.{Bool, true, false}
-use mathlib.Core.List.{List}
-use native.Mathlib.Omega.{arith}
-use lib.ListN.{length, getD, take, drop, set}
-use borrow.Author.Tests.{le-leb}
+use Rattle.units.proofs.Common.{sym, _∙_, _≡_, refl, ap, subst, true, false, Bool, List, ℕ, _≤_, _-_, _+_, _<_, _^_, arith, length, drop}
+use Rattle.units.proofs.Common.{getD, take, set, le-leb}
 use Rattle.units.specs.declared.Form.{Form}
 use Rattle.units.specs.declared.Words.{Words}
-use Rattle.meaning.specs.Bench.{Bench, full, isNode}
-use Rattle.meaning.specs.Response.{bears, shown}
-use Rattle.meaning.specs.Call.{collect, acknowledge, handed, Said, refused, answered, Outcome, step}
-use Rattle.state.specs.Machine.{Machine, machine, meaning, nodeSlot}
-use Rattle.state.specs.Consistent.{counts, unfit}
+use Rattle.meaning.proofs.Terms.{Bench, full, isNode, bears, shown, collect, acknowledge, handed, Said, refused, answered, Outcome, step}
+use Rattle.state.proofs.Terms.{Machine, machine, meaning, nodeSlot, counts, unfit}
 use Rattle.state.specs.declared.node.Node.{Node}
 use Rattle.state.specs.declared.State.{State}
 use Rattle.state.proofs.Read.{blank}

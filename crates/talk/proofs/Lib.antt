@@ -1,3 +1,4 @@
+-- Laws that belong to no one function.
 pub mod Lying
 pub mod Talking
 pub mod Collecting

@@ -1,20 +1,10 @@
 -- On a consistent machine the lent store is the one that the gateway's lists make: the words of a look are those of the definition.
 -- Assumes nothing.
-use Prim.Native.Nat.{ℕ, zero, suc, _+_, _-_, _≤_, _<_}
-use mathlib.Core.Path.{_≡_, refl, sym, ap, _∙_, subst}
-use mathlib.Core.Bool.{true}
-use mathlib.Core.Logic.{_⊎_, inl, inr}
-use mathlib.Core.List.{List, [], _∷_, _++_}
-use native.Mathlib.Omega.{arith}
-use lib.ListN.{length, getD, length-append, List·getD-append}
-use lib.Seq.{ext-getD}
-use borrow.Author.Tests.{le-leb}
-use Rattle.meaning.specs.Bench.{Bench, hub, isReader}
-use Rattle.meaning.specs.Gateway.{Gateway, Node}
+use Rattle.units.proofs.Common.{sym, _∙_, _≡_, refl, ap, subst, inl, inr, _⊎_, true, List, [], _∷_, _++_, ℕ, _≤_, _-_, _+_, _<_, suc, zero}
+use Rattle.units.proofs.Common.{arith, length, getD, length-append, List·getD-append, ext-getD, le-leb}
+use Rattle.meaning.proofs.Terms.{Bench, hub, isReader, Gateway, Node}
 use Rattle.demands.specs.Sound.{Sound}
-use Rattle.state.specs.Layout.{storeOf}
-use Rattle.state.specs.Machine.{Machine, meaning, nodesIn, plain}
-use Rattle.state.specs.Consistent.{unfit}
+use Rattle.state.proofs.Terms.{storeOf, Machine, meaning, nodesIn, plain, unfit}
 use Rattle.state.proofs.Lists.{both, below-or}
 use Rattle.state.proofs.Read.{packed-of, packed-store}
 use Rattle.promise.proofs.Parts.{Parts, parts}
@@ -55,8 +45,7 @@ module _ (b : Bench) (ok : Sound b) (m : Machine) (fits : unfit b m ≡ 0) where
 
   length-order : length (inOrder b (meaning b m)) ≡ b .readers + 1
   unfolding inOrder
-  length-order =
-      omega (arith, length-append (firstNodes (b .readers) f) (f hub ∷ []), length-first (b .readers) f)
+  length-order = omega (arith, length-append (firstNodes (b .readers) f) (f hub ∷ []), length-first (b .readers) f)
 
   node-in-order : (i : ℕ) → i < b .readers + 1 → getD nodes i plain ≡ getD (inOrder b (meaning b m)) i plain
   unfolding inOrder

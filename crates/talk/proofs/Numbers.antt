@@ -1,16 +1,9 @@
 -- A call that is refused by what it says is refused with a number of at most 11.
 -- Assumes nothing.
-use Prim.Native.Nat.{ℕ, _≤_}
-use mathlib.Core.Path.{_≡_, refl}
-use mathlib.Core.Bool.{Bool, true, false, _&&_, cond}
-use native.Mathlib.Omega.{arith}
-use lib.Dec.{leb, eqb}
-use borrow.Author.Tests.{leb-true}
-use Rattle.units.proofs.Choice.{and-true}
-use Rattle.meaning.specs.Refusal.{Doubts, _when_, _at_when_, _orElse_, refusal}
-use Rattle.meaning.specs.Bench.{full}
-use Rattle.meaning.specs.Command.{frameDoubts, whoDoubts, limitDoubts, unusedDoubts, rowDoubts, commandDoubts}
-use Rattle.meaning.specs.Call.{Call, command, check, arrive, leave, collect, acknowledge, asked, judged}
+use Rattle.units.proofs.Common.{_≡_, refl, true, false, Bool, cond, _&&_, ℕ, _≤_, arith, eqb, leb, leb-true, and-true}
+use Rattle.meaning.proofs.Terms.{Doubts, _when_, _orElse_, refusal, full, frameDoubts, whoDoubts, limitDoubts, unusedDoubts, rowDoubts}
+use Rattle.meaning.proofs.Terms.{commandDoubts, Call, command, check, arrive, leave, collect, acknowledge, asked, judged}
+use Rattle.meaning.specs.Refusal.{_at_when_}
 
 -- no number of a chain is above k
 unfoldable most : ℕ → Doubts → Bool

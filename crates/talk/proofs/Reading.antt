@@ -1,22 +1,13 @@
 -- A call for a reader that is not refused by what it says: what its own function makes of the parts is the meaning's step of the call.
 -- Assumes nothing.
-use Prim.Native.Nat.{ℕ, _-_, _≤_}
-use mathlib.Core.Path.{_≡_, refl, sym, ap, _∙_, subst}
-use mathlib.Core.Bool.{true, not, true≢false}
-use mathlib.Core.List.{List}
-use lib.ListN.{length, take}
-use borrow.Author.Tests.{not-false}
-use Rattle.units.specs.Stamp.{isStamp}
+use Rattle.units.proofs.Common.{sym, _∙_, _≡_, refl, ap, subst, true, not, true≢false, List, ℕ, _≤_, _-_, length, take, not-false, isStamp}
 use Rattle.units.specs.declared.Words.{Words}
 use Rattle.units.specs.declared.Bytes.{Bytes}
 use Rattle.units.specs.declared.stamp.Stamp.{Stamp}
-use Rattle.meaning.specs.Refusal.{_when_}
-use Rattle.meaning.specs.Bench.{full, isReader, hub}
-use Rattle.meaning.specs.Command.{commandData}
+use Rattle.meaning.proofs.Terms.{_when_, full, isReader, hub, commandData, command, check, arrive, judged, step}
 use Rattle.meaning.specs.Call as M
-use Rattle.meaning.specs.Call.{command, check, arrive, judged, step}
 use Rattle.meaning.proofs.Chain.{accepts, fine}
-use Rattle.state.specs.Machine.{machine, meaning}
+use Rattle.state.proofs.Terms.{machine, meaning}
 use Rattle.state.specs.declared.node.Node.{Node}
 use Rattle.state.specs.declared.reader.Reader.{Reader}
 use Rattle.answers.specs.Ordered.{loadOf, Ready, ordered, looking, heeding}
@@ -85,11 +76,13 @@ module _ {n : ℕ} {own : Node} {x : Reader} {held : List Words} {store memory :
         (meaning full (machine s store memory)) (ap (isReader full) at ∙ a .is)) (d s seat fit))
 
 -- ---- the gateway's own command
-module _ {nodes : List Node} {held : List Words} {name : Name} {store : List ℕ} (a : Houseable full nodes held name store) {ws : List ℕ} {o : Order}
+module _ {nodes : List Node} {held : List Words} {name : Name} {store : List ℕ} (a : Houseable full nodes held name store) {ws : List ℕ}
+    {o : Order}
     (q : Orders full ws o) {words : List ℕ} (load : words ≡ commandData (o .form) (take (o .words .0) ws)) where
   pub hub-needs : (isStamp (o .stamp) ≡ true) × ToldOf full (o .kind) (o .what) words
   hub-needs =
-      let p = heeded full (o .stamp) (o .form) (take (o .words .0) ws) (q .fine) (q .kind) (q .what) load (machine (a .state) store (a .memory)) (a .fit) in
+      let p = heeded full (o .stamp) (o .form) (take (o .words .0) ws) (q .fine) (q .kind) (q .what) load
+      (machine (a .state) store (a .memory)) (a .fit) in
       (p .stamp, p .told)
 
   pub hub-houses : o .what .node ≡ hub → (r : Housed) {store′ : List ℕ}

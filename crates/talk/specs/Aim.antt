@@ -23,7 +23,7 @@ use Rattle.promise.specs.Obeyed.{Does}
 use Rattle.handover.specs.Handed.{Slot}
 use Rattle.text.specs.Text.{Put}
 use Rattle.listing.specs.Lines.{refusedLine}
-use Rattle.dialog.specs.Dialog.{unreadableLine, saidLine, storeLine}
+use Rattle.dialog.specs.Dialog.{unreadableLine, saidLine, storeLine, longestAnswer}
 use Rattle.lines.specs.declared.Heard.{Heard}
 use Rattle.talk.specs.declared.aim.Aside.{Aside}
 use Rattle.talk.specs.declared.aim.Want.{Want}
@@ -120,7 +120,7 @@ wanted n (Want.Acknowledge h) = acknowledge n h
 pub record Tells (b : Bench) (c : Call) (m : Machine) (old : List ℕ) (to : ℕ) (new : List ℕ) (at : ℕ) (m′ : Machine) : Type 0 where
   pub does : Does b (step b (meaning b m) c) m ((step b (meaning b m) c) .said) m′
   pub wrote : Put old to (saidLine ((step b (meaning b m) c) .said)) new at
-  pub room : at ≤ to + 691
+  pub room : at ≤ to + longestAnswer
 
 -- on every consistent machine that the node at index i and the words that all nodes hold are parts of
 abbrev pub Shows : Bench → Form → ℕ → ℕ → Node → List Words → List ℕ → List ℕ → ℕ → List ℕ → ℕ → Type 0

@@ -25,6 +25,7 @@ use state::Name;
 use state::node::Node;
 use state::reader::Reader;
 use units::Form;
+use units::NODES;
 use units::Words;
 ghost use Prim.Native.Nat.{_+_, _≤_};
 ghost use mathlib.Core.Path.{_≡_};
@@ -35,10 +36,11 @@ ghost use Rattle.settle.specs.Settled.{Seatable, Seats, Houseable, Houses};
 ghost use Rattle.handover.specs.Handed.{Listable};
 ghost use Rattle.text.specs.Text.{Put};
 ghost use Rattle.talk.specs.Aim.{asked, Orders, Asks, asideLine, Lies, Shows, TellsAt};
+ghost use Rattle.dialog.specs.Dialog.{longestAnswer};
 
 // What is no call, or a call that is refused by what it says: said, and nothing changes.
 pub fn put_aside(out: &mut [u8], to: usize, aside: Aside, store: &[u16]) -> usize
-    requires { ⌜ (to + 691 ≤ length (now out)) × Lies aside (length (now store)) ⌝ }
+    requires { ⌜ (to + longestAnswer ≤ length (now out)) × Lies aside (length (now store)) ⌝ }
     ensures { λ r. ⌜ Put (now (out .entry)) to (asideLine aside (now (store .entry))) (now (out .exit)) r ⌝ }
 {
     match aside {
@@ -58,13 +60,13 @@ fn put_oldest(
     i: usize,
     node: u8,
     own: Node,
-    held: [Words; 17],
+    held: [Words; NODES],
     form: Form,
     store: &[u16],
     out: &mut [u8],
     to: usize,
 ) -> usize
-    requires { ⌜ Listable full i own held (now store) × (to + 691 ≤ length (now out)) ⌝ }
+    requires { ⌜ Listable full i own held (now store) × (to + longestAnswer ≤ length (now out)) ⌝ }
     ensures { λ r. ⌜ Shows full form node i own held (now (store .entry)) (now (out .entry)) to (now (out .exit)) r ⌝ }
 {
     if own.answers == 0 {
@@ -78,7 +80,7 @@ fn put_oldest(
 // A node and the words that all nodes hold, after a call for its list; and the place in the output after what was said.
 pub struct ListTold {
     pub node: Node,
-    pub held: [Words; 17],
+    pub held: [Words; NODES],
     pub at: usize,
 }
 
@@ -87,14 +89,15 @@ pub fn at_list(
     i: usize,
     node: u8,
     own: Node,
-    held: [Words; 17],
+    held: [Words; NODES],
     want: Want,
     store: &mut [u16],
     out: &mut [u8],
     to: usize,
 ) -> ListTold
-    requires { ⌜ Listable full i own held (now store) × (to + 691 ≤ length (now out)) ⌝ }
-    ensures { λ r. ⌜ TellsAt full want node i own held (now (store .entry)) (now (store .exit)) (now (out .entry)) to (now (out .exit)) r ⌝ }
+    requires { ⌜ Listable full i own held (now store) × (to + longestAnswer ≤ length (now out)) ⌝ }
+    ensures { λ r. ⌜ TellsAt full want node i own held (now (store .entry)) (now (store .exit)) (now (out .entry)) to (now (out .exit))
+        r ⌝ }
 {
     match want {
         Want::Collect(form) => {
@@ -125,7 +128,7 @@ pub fn at_reader(
     node: u8,
     own: Node,
     x: Reader,
-    held: [Words; 17],
+    held: [Words; NODES],
     ask: Ask,
     packet: &[u16],
     id: &[u8],
@@ -134,7 +137,8 @@ pub fn at_reader(
     plaques: &mut [u8],
 ) -> Seated
     requires { ⌜ Asks full node ask (now packet) (now id) (now content) × Seatable full node own x held (now store) (now plaques) ⌝ }
-    ensures { λ r. ⌜ Seats full (λ g. step full g (asked node ask (now (packet .entry)) (now (id .entry)) (now (content .entry)))) node own x held
+    ensures { λ r. ⌜ Seats full (λ g. step full g (asked node ask (now (packet .entry)) (now (id .entry)) (now (content .entry)))) node
+        own x held
         (now (store .entry)) (now (plaques .entry)) r (now (store .exit)) (now (plaques .exit)) ⌝ }
 {
     match ask {
@@ -159,15 +163,16 @@ pub fn at_reader(
 
 // A command for the gateway itself.
 pub fn at_hub(
-    nodes: [Node; 17],
-    held: [Words; 17],
+    nodes: [Node; NODES],
+    held: [Words; NODES],
     name: Name,
     order: Order,
     packet: &[u16],
     store: &mut [u16],
 ) -> Housed
     requires { ⌜ Orders full (now packet) order × (order .what .node ≡ hub) × Houseable full nodes held name (now store) ⌝ }
-    ensures { λ r. ⌜ Houses full (λ g. step full g (command (order .stamp) (order .form) (take (order .words .0) (now (packet .entry))))) nodes held
+    ensures { λ r. ⌜ Houses full (λ g. step full g (command (order .stamp) (order .form) (take (order .words .0) (now (packet .entry)))))
+        nodes held
         name (now (store .entry)) r (now (store .exit)) ⌝ }
 {
     let n = order.words.0 as usize;

@@ -1,18 +1,10 @@
 -- Laws of writing: one text after another, how long a text is, and the turns of the loops.
 -- Assumes nothing.
-use Prim.Native.Nat.{ℕ, zero, suc, _+_, _-_, _*_, _/_, _%_, _^_, _≤_, _<_}
-use mathlib.Core.Path.{_≡_, refl, sym, ap, subst, _∙_}
-use mathlib.Core.List.{List, [], _∷_, _++_}
-use mathlib.Core.Bool.{true, cond}
-use native.Mathlib.Omega.{arith}
-use native.Mathlib.Numerals.{add-one}
-use native.Mathlib.Decide.{ℕ-discrete}
+use Rattle.units.proofs.Common.{sym, _∙_, _≡_, refl, ap, subst, true, cond, List, [], _∷_, _++_, ℕ, _≤_, _-_, _+_, _<_, suc, _*_, zero, _%_}
+use Rattle.units.proofs.Common.{_^_, _/_, add-one, ℕ-discrete, arith, ltb, length, drop, getD, take, set, length-append, length-take, sets}
+use Rattle.units.proofs.Common.{slice, take-at, drop-at, drop-cons, sets-eq, le-ltb, lt-ltb, yes-cond, no-cond}
 use native.Mathlib.Nat.{pow-succ', mod-eq-of-lt, add-mul-mod-self-left}
-use lib.ListN.{length, getD, take, drop, set, length-append, length-take}
-use lib.Seq.{sets, sets-eq, length-sets, set-set, drop-cons, slice, take-at, drop-at}
-use lib.Dec.{ltb}
-use borrow.Author.Tests.{lt-ltb, le-ltb}
-use Rattle.units.proofs.Choice.{yes-cond, no-cond}
+use lib.Seq.{length-sets, set-set}
 use Rattle.text.specs.Text.{Put, digitOf, hexOf, byteHexOf, bytesHexOf, decimalWithin, decimalOf, wordsLine}
 
 sets-append : (l : List ℕ) (i : ℕ) (vs ws : List ℕ) → sets l i (vs ++ ws) ≡ sets (sets l i vs) (i + length vs) ws
@@ -29,11 +21,13 @@ put-rest {o} {o₁} {t} {at} {r} rest p =
     ∙ sym (sets-append o at t rest)
 
 -- a turn of a loop: after a text the rest is still to be written
-pub put-turn : {o o₁ t whole : List ℕ} {to r : ℕ} (left rest : List ℕ) → Put o to t o₁ r → left ≡ t ++ rest → sets o to left ≡ whole → sets o₁ r rest ≡ whole
+pub put-turn : {o o₁ t whole : List ℕ} {to r : ℕ} (left rest : List ℕ) → Put o to t o₁ r → left ≡ t ++ rest → sets o to left ≡ whole → sets
+    o₁ r rest ≡ whole
 put-turn {o} {o₁} {t} {whole} {to} left rest p e w = put-rest rest p ∙ ap (sets o to) (sym e) ∙ w
 
 -- the loop's end: nothing is left
-pub put-done : {o₀ o whole : List ℕ} {at to : ℕ} (left : List ℕ) → to ≡ at + length whole → left ≡ [] → sets o to left ≡ sets o₀ at whole → Put o₀ at whole o to
+pub put-done : {o₀ o whole : List ℕ} {at to : ℕ} (left : List ℕ) → to ≡ at + length whole → left ≡ [] → sets o to left ≡ sets o₀ at whole →
+    Put o₀ at whole o to
 put-done {o₀} {o} {whole} {at} {to} left n e w = record { next = n; wrote = sym (ap (sets o to) e) ∙ w }
 
 -- one text after another
@@ -109,7 +103,8 @@ within-enough (suc j) (suc k) n h g =
     elim (ℕ-discrete (n / 10) 0) [
       | yes e ↦ let l : ltb n 10 ≡ true = lt-ltb n 10 (omega arith) in yes-cond _ l ∙ sym (yes-cond _ l)
       | no d ↦
-          ap (λ (x : List ℕ). cond (ltb n 10) ((48 + n) ∷ []) (x ++ ((48 + n % 10) ∷ []))) (within-enough j k (n / 10) (omega arith) (omega arith))
+          ap (λ (x : List ℕ). cond (ltb n 10) ((48 + n) ∷ []) (x ++ ((48 + n % 10) ∷ [])))
+          (within-enough j k (n / 10) (omega arith) (omega arith))
     ]
 
 pub decimal-more : (n : ℕ) → 10 ≤ n → decimalOf n ≡ decimalOf (n / 10) ++ ((48 + n % 10) ∷ [])

@@ -1,5 +1,6 @@
 // A tour of the bench: at each reader a plaque arrives, a command reads three of its bytes, and the answer is collected and acknowledged;
 // at the gateway the name is asked for. Each answer, in framed form, is a line. Then the gateway's handover number goes around.
+use dialogout::LONGEST;
 use dialogout::put_handed;
 use gateway::acknowledge;
 use gateway::arrive;
@@ -8,7 +9,9 @@ use gateway::command;
 use promise::Handout;
 use state::State;
 use text::put_words;
+use units::Bytes;
 use units::Form;
+use units::Words;
 use units::stamp::Stamp;
 
 fn say(words: &[u16]) {
@@ -89,9 +92,9 @@ fn show(s: State, store: &[u16], plaques: &[u8]) {
     if 134 < n {
         return;
     }
-    let mut line = [0u8; 691];
+    let mut line = [0u8; LONGEST];
     let end = put_handed(&mut line, 0, number, Form::Framed, 32, &out[..n]);
-    if end <= 691 {
+    if end <= LONGEST {
         io::write_all(1, &line[..end]);
     }
 }
@@ -110,8 +113,8 @@ fn go_around(store: &mut [u16], plaques: &mut [u8]) {
 }
 
 fn main() {
-    let mut store = [0u16; 4096];
-    let mut plaques = [0u8; 16384];
+    let mut store = [0u16; Words::STORE.0 as usize];
+    let mut plaques = [0u8; Bytes::PLAQUES.0 as usize];
     let fresh = state::fresh(&mut store);
     let s = visit_readers(fresh, &mut store, &mut plaques);
     let packet = [0x0006u16, 0xAA11, 0x0020, 0x0000, 0x0000, 0x0000];

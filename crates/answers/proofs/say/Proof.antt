@@ -1,14 +1,13 @@
-use native.Mathlib.Omega.{arith}
-use mathlib.Core.Path.{refl}
-use denote.Ref.{now}
-use lib.ListN.{length}
+-- What may be said is not refused, so the answer has the whole packet in front, and its length is handed back.
+use Rattle.units.proofs.Common.{refl, arith, length, now, needs}
 use Rattle.answers.proofs.Saying.{short, says}
-use borrow.Author.Needs.{needs}
 use Rattle.answers.proofs.say.Statement.{statement}
 use Rattle.answers.proofs.say.Tie as tie
 
 cast-bytes : tie.Need-cast-t9
-cast-bytes c = let s = c .before .before .before .before .before .before in record { fits = omega (arith, short (s .args .r) (now (s .args .bytes)) (length (now (s .args .answer))) (s .pre)) }
+cast-bytes c =
+    let s = c .before .before .before .before .before .before in
+    record { fits = omega (arith, short (s .args .r) (now (s .args .bytes)) (length (now (s .args .answer))) (s .pre)) }
 
 returns : tie.Need-returns
 returns c =

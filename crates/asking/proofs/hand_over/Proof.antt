@@ -1,20 +1,14 @@
 -- `asking::hand_over` meets its contract: the words that are written are the oldest answer's, since it stands at its node's place on every
 -- machine that the parts are of; and the store and the counts are then those without it.
 -- Assumes nothing.
-use Prim.Native.Nat.{ℕ, _+_, _-_}
-use mathlib.Core.Path.{_≡_, ap, _∙_}
-use mathlib.Core.List.{List}
-use native.Mathlib.Omega.{arith}
-use denote.Ref.{now}
-use lib.ListN.{length, getD, take, drop}
-use Rattle.meaning.specs.Bench.{full}
-use Rattle.state.specs.Machine.{Machine, machine}
+use Rattle.units.proofs.Common.{_∙_, _≡_, ap, List, ℕ, _-_, _+_, arith, length, drop, getD, take, now, needs}
+use Rattle.meaning.proofs.Terms.{full}
+use Rattle.state.proofs.Terms.{Machine, machine}
 use Rattle.text.specs.Text.{wordsLine}
 use Rattle.text.proofs.Writing.{put-as}
 use Rattle.promise.proofs.Parts.{parts}
 use Rattle.handover.proofs.Served.{Stands}
 use Rattle.handover.proofs.Handing.{inside, first, lies, first-is, slot-takeable, slot-taken}
-use borrow.Author.Needs.{needs}
 use Rattle.asking.proofs.hand_over.Statement.{statement}
 use Rattle.asking.proofs.hand_over.Tie as tie
 
@@ -44,46 +38,6 @@ stands-here c =
 stored : (s : tie.Start) → length (now (s .args .store)) ≡ full .store
 stored s = parts full (known s) (s .pre .0 .fit) .store
 
-place-of-requires : tie.Need-place-of-requires
-place-of-requires c κs =
-    let s = c .before .before in
-    let w = s .pre .0 in
-    omega (arith, inside (w .state) (now (s .args .store)) (w .memory) (w .fit) (w .number) (w .is) (w .at) (w .slot) (w .some))
-
-mul-end : tie.Need-mul-end
-mul-end c = record { fits = omega (arith, stands-here c .inside, stored (c .before .before .before)) }
-
-slice-read-end : tie.Need-slice-read-end
-slice-read-end c = let h = stands-here (c .before) in omega (arith, h .inside, h .least)
-
-cast-end : tie.Need-cast-end
-cast-end c = let h = stands-here (c .before) in record { fits = omega (arith, h .says, h .most) }
-
-add-end : tie.Need-add-end
-add-end c =
-    let h = stands-here (c .before) in
-    record { fits = omega (arith, h .says, h .inside, stored (c .before .before .before .before)) }
-
-mul-part : tie.Need-mul-put-words
-mul-part c =
-    let p = c .before .before in
-    record { fits = omega (arith, stands-here p .inside, stored (p .before .before .before)) }
-
-part-end : tie.Need-part-put-words-end
-part-end c = let h = stands-here (c .before .before .before) in omega (arith, h .says, h .inside)
-
-put-words-requires : tie.Need-put-words-requires
-put-words-requires c κs =
-    let p = c .before .before .before .before in
-    let h = stands-here p in
-    omega (arith, h .most, ap length (lent h), p .before .before .before .pre .1)
-
-take-requires : tie.Need-take-requires
-take-requires c κs =
-    let s = c .before .before .before .before .before .before .before .before .before .before .before in
-    let w = s .pre .0 in
-    slot-takeable (w .state) (now (s .args .store)) (w .memory) (w .fit) (w .number) (w .is) (w .at) (w .slot) (w .some)
-
 returns : tie.Need-returns
 returns c n is at s memory a fit =
     let t = c .before .before .before in
@@ -106,7 +60,24 @@ returns c n is at s memory a fit =
     }
 
 pub hand-over-spec : {M : Type 1} → statement M
-hand-over-spec =
-    tie.close
-    (tie.spec place-of-requires mul-end slice-read-end cast-end add-end mul-part (λ c. search needs) (λ c. search needs) part-end
-    put-words-requires take-requires (λ c κs. search needs) (λ c. search needs) (λ c. search needs) returns)
+hand-over-spec = tie.close (tie.spec
+    (λ c κs. let s = c .before .before in
+    omega (
+      arith,
+      inside (s .pre .0 .state) (now (s .args .store)) (s .pre .0 .memory) (s .pre .0 .fit) (s .pre .0 .number)
+          (s .pre .0 .is) (s .pre .0 .at) (s .pre .0 .slot) (s .pre .0 .some),
+    ))
+    (λ c. record { fits = omega (arith, stands-here c .inside, stored (c .before .before .before)) })
+    (λ c. let h = stands-here (c .before) in omega (arith, h .inside, h .least))
+    (λ c. let h = stands-here (c .before) in record { fits = omega (arith, h .says, h .most) })
+    (λ c. let h = stands-here (c .before) in
+    record { fits = omega (arith, h .says, h .inside, stored (c .before .before .before .before)) })
+    (λ c. record { fits = omega (arith, stands-here (c .before .before) .inside, stored (c .before .before .before .before .before)) })
+    (λ c. search needs) (λ c. search needs)
+    (λ c. let h = stands-here (c .before .before .before) in omega (arith, h .says, h .inside))
+    (λ c κs. let p = c .before .before .before .before in let h = stands-here p in
+    omega (arith, h .most, ap length (lent h), p .before .before .before .pre .1))
+    (λ c κs. let s = c .before .before .before .before .before .before .before .before .before .before .before in
+    slot-takeable (s .pre .0 .state) (now (s .args .store)) (s .pre .0 .memory) (s .pre .0 .fit) (s .pre .0 .number) (s .pre .0 .is)
+    (s .pre .0 .at) (s .pre .0 .slot) (s .pre .0 .some))
+    (λ c κs. search needs) (λ c. search needs) (λ c. search needs) returns)

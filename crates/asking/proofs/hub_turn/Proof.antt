@@ -1,22 +1,14 @@
 -- `asking::hub_turn` meets its contract: what `governed` promises of the gateway's parts is the meaning's step, and the line is that of
 -- what was said: a refusal's number, or the words of the answer that now waits at the gateway's own node.
 -- Assumes nothing.
-use Prim.Native.Nat.{ℕ}
-use mathlib.Core.Path.{_≡_, refl, ap}
-use mathlib.Core.List.{List}
-use native.Mathlib.Omega.{arith}
-use denote.Ref.{now}
-use borrow.Author.Tests.{eq-eqb}
-use Rattle.units.proofs.Choice.{yes-cond}
-use Rattle.meaning.specs.Bench.{full, hub}
-use Rattle.meaning.specs.Call.{done, quiet}
+use Rattle.units.proofs.Common.{_≡_, refl, ap, List, ℕ, arith, now, eq-eqb, needs, yes-cond}
+use Rattle.meaning.proofs.Terms.{full, hub, done, quiet}
 use Rattle.demands.specs.Sound.{full-sound}
-use Rattle.state.specs.Machine.{Machine, machine, nodeSlot}
+use Rattle.state.proofs.Terms.{Machine, machine, nodeSlot}
 use Rattle.state.specs.declared.State.{State}
 use Rattle.promise.specs.Obeyed.{spoken}
 use Rattle.asking.proofs.Accepting.{heeded, names, steps-hub}
 use Rattle.asking.proofs.Asking.{took, plays-refused, plays-answered, waits-there, plays-handed, slot-at}
-use borrow.Author.Needs.{needs}
 use Rattle.asking.proofs.hub_turn.Statement.{statement}
 use Rattle.asking.proofs.hub_turn.Tie as tie
 
@@ -26,14 +18,6 @@ on s x memory = machine x (now (s .args .store)) memory
 
 hub-slot : (n : ℕ) → n ≡ hub → nodeSlot full n ≡ full .readers
 hub-slot n e = yes-cond _ (eq-eqb n hub e)
-
-governed-requires : tie.Need-governed-requires
-governed-requires c κs =
-    let d = c .before in
-    let s = d .before .before .before .before in
-    let p = s .pre .0 .2 in
-    let o = heeded (s .pre .0 .0) (d .command-data .ensures) (on s (p .state) (p .memory)) (p .fit) in
-    (p, o .stamp, o .told)
 
 hand-over-requires : tie.Need-hand-over-requires
 hand-over-requires c κs =
@@ -99,8 +83,11 @@ returns-4 c x memory w fit =
     (ap spoken (c .enum-told3 .given .1)) (now (a .out)) (a .to)
 
 pub hub-turn-spec : {M : Type 1} → statement M
-hub-turn-spec =
-    tie.close
-    (tie.spec (λ c κs. search needs) governed-requires (λ c. search needs) (λ c κs. search needs) (λ c. search needs) (λ c. search needs)
-    hand-over-requires (λ c. search needs) (λ c. search needs) (λ c. search needs) (λ c. search needs) (λ c. search needs) returns
-    (λ c. search needs) (λ c. search needs) returns-2 (λ c. search needs) returns-3 (λ c. search needs) returns-4)
+hub-turn-spec = tie.close (tie.spec (λ c κs. search needs)
+    (λ c κs. let s = c .before .before .before .before .before in
+    let o = heeded (s .pre .0 .0) (c .before .command-data .ensures) (on s (s .pre .0 .2 .state) (s .pre .0 .2 .memory))
+    (s .pre .0 .2 .fit) in
+    ((s .pre .0 .2), o .stamp, o .told))
+    (λ c. search needs) (λ c κs. search needs) (λ c. search needs) (λ c. search needs) hand-over-requires (λ c. search needs)
+    (λ c. search needs) (λ c. search needs) (λ c. search needs) (λ c. search needs) returns (λ c. search needs) (λ c. search needs)
+    returns-2 (λ c. search needs) returns-3 (λ c. search needs) returns-4)

@@ -1,39 +1,21 @@
 -- `asking::reader_turn` meets its contract: what `obeyed` promises of the reader's parts is the meaning's step, and the line is that of
 -- what was said: a refusal's number, or the words of the answer that now waits there.
 -- Assumes nothing.
-use mathlib.Core.Path.{ap}
-use native.Mathlib.Omega.{arith}
-use denote.Ref.{now}
-use Rattle.meaning.specs.Bench.{full}
-use Rattle.meaning.specs.Call.{done, quiet}
+use Rattle.units.proofs.Common.{ap, arith, now, needs}
+use Rattle.meaning.proofs.Terms.{full, done, quiet}
 use Rattle.demands.specs.Sound.{full-sound}
-use Rattle.state.specs.Machine.{Machine, machine}
+use Rattle.state.proofs.Terms.{Machine, machine}
 use Rattle.state.specs.declared.State.{State}
 use Rattle.promise.specs.Obeyed.{spoken}
 use Rattle.promise.proofs.Tables.{reader-range, reader-slot}
 use Rattle.asking.proofs.Accepting.{orderly, names, steps-reader}
 use Rattle.asking.proofs.Asking.{plays-refused, plays-answered, waits-there, plays-handed, slot-seated, seated-again}
-use borrow.Author.Needs.{needs}
 use Rattle.asking.proofs.reader_turn.Statement.{statement}
 use Rattle.asking.proofs.reader_turn.Tie as tie
 
 -- the machine of a state
 abbrev on : tie.Start → State → Machine
 on s x = machine x (now (s .args .store)) (now (s .args .plaques))
-
-obeyed-requires : tie.Need-obeyed-requires
-obeyed-requires c κs =
-    let d = c .before .before in
-    let s = d .before .before .before .before .before in
-    let p = s .pre .0 .1 in
-    let o = orderly (s .pre .0 .0) (d .command-data .ensures) (on s (p .state)) (p .fit) (p .is) in
-    (p, o .stamp, o .ready)
-
-sub-index : tie.Need-sub-hand-over
-sub-index c =
-    let o = c .before .before .before .before .before .before .before .before .before .before in
-    let s = o .before .before .before .before .before .before .before .before in
-    omega (arith, reader-range full (s .args .m .node) (s .pre .0 .1 .is))
 
 hand-over-requires : tie.Need-hand-over-requires
 hand-over-requires c κs =
@@ -99,9 +81,15 @@ returns-4 c x w fit =
     (ap spoken (c .enum-told3 .given .1)) (now (a .out)) (a .to)
 
 pub reader-turn-spec : {M : Type 1} → statement M
-reader-turn-spec =
-    tie.close
-    (tie.spec (λ c κs. search needs) obeyed-requires (λ c. search needs) (λ c κs. search needs) (λ c. search needs) sub-index
+reader-turn-spec = tie.close (tie.spec (λ c κs. search needs)
+    (λ c κs. let s = c .before .before .before .before .before .before .before in
+    let o = orderly (s .pre .0 .0) (c .before .before .command-data .ensures) (on s (s .pre .0 .1 .state)) (s .pre .0 .1 .fit)
+    (s .pre .0 .1 .is) in
+    ((s .pre .0 .1), o .stamp, o .ready))
+    (λ c. search needs) (λ c κs. search needs) (λ c. search needs)
+    (λ c. let p = c .before .before .before .before .before .before .before .before .before in
+    let s = p .before .before .before .before .before .before .before .before .before in
+    omega (arith, reader-range full (s .args .m .node) (s .pre .0 .1 .is)))
     (λ c. search needs) hand-over-requires (λ c. search needs) (λ c. search needs) (λ c. search needs) (λ c. search needs)
     (λ c. search needs) returns (λ c. search needs) (λ c. search needs) (λ c. search needs) returns-2 (λ c. search needs)
     (λ c. search needs) returns-3 (λ c. search needs) (λ c. search needs) returns-4)

@@ -1,11 +1,8 @@
-use mathlib.Core.Path.{_≡_, refl, sym}
-use borrow.Author.Tests.{eq-eqb, ne-eqb}
-use Rattle.units.proofs.Choice.{yes-and, no-and}
+-- Only continuous reading that is stopped has a delay to be judged.
+use Rattle.units.proofs.Common.{sym, _≡_, refl, false, eq-eqb, ne-eqb, needs, yes-and, no-and}
 use Rattle.command.proofs.Leaves.{not-continuous}
-use mathlib.Core.Bool.{false}
 use Rattle.meaning.specs.declared.table.Kind.{Kind}
 use Rattle.meaning.specs.Command.{delayWrong}
-use borrow.Author.Needs.{needs}
 use Rattle.command.proofs.delay_wrong.Statement.{statement}
 use Rattle.command.proofs.delay_wrong.Tie as tie
 
@@ -22,7 +19,8 @@ returns-2 c = rw (c .before .before .enum-told .given .1) (sym (no-and _ (ne-eqb
 
 returns-3 : tie.Need-returns-3
 unfolding delayWrong
-returns-3 c = not-continuous (λ (k : Kind). false ≡ delayWrong k (c .before .args .m)) (c .before .args .kind) (c .match .keys2) (λ p. refl) refl (λ g. refl) refl
+returns-3 c = not-continuous (λ (k : Kind). false ≡ delayWrong k (c .before .args .m)) (c .before .args .kind) (c .match .keys2) (λ p. refl)
+    refl (λ g. refl) refl
 
 pub delay-wrong-spec : {M : Type 1} → statement M
 delay-wrong-spec = tie.close (tie.spec enum-told returns returns-2 returns-3)

@@ -1,12 +1,8 @@
 -- A stamp that is none is 3, before all that the packet could be refused for; what was opened is what the packet says, its row the table's.
-use mathlib.Core.Path.{refl, sym, ap, _∙_}
-use denote.Ref.{now}
-use mathlib.Core.Bool.{not}
-use borrow.Author.Tests.{not-true, not-false}
-use Rattle.meaning.specs.Call.{judged, asked, commandIn, kindIn}
+use Rattle.units.proofs.Common.{sym, _∙_, refl, ap, not, now, not-false, not-true, needs}
+use Rattle.meaning.proofs.Terms.{judged, asked, commandIn, kindIn}
 use Rattle.meaning.proofs.Chain.{pass-if, stop-if}
 use Rattle.command.proofs.Leaves.{refusal-is, said-is, kind-is, judged-is}
-use borrow.Author.Needs.{needs}
 use Rattle.command.proofs.judge_command.Statement.{statement}
 use Rattle.command.proofs.judge_command.Tie as tie
 
@@ -37,6 +33,5 @@ returns-2 c =
     (said-is (a .form) (now (a .words)) b e)
 
 pub judge-command-spec : {M : Type 1} → statement M
-judge-command-spec =
-    tie.close
-    (tie.spec (λ c κs. search needs) (λ c κs. search needs) (λ c κs. search needs) (λ c κs. search needs) returns (λ c κs. search needs) returns-2)
+judge-command-spec = tie.close (tie.spec (λ c κs. search needs) (λ c κs. search needs) (λ c κs. search needs) (λ c κs. search needs)
+    returns (λ c κs. search needs) returns-2)

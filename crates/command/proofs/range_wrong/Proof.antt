@@ -1,18 +1,13 @@
-use mathlib.Core.Path.{_≡_, refl}
+-- Only continuous reading has a range of its own here.
+use Rattle.units.proofs.Common.{_≡_, refl, false, needs}
 use Rattle.command.proofs.Leaves.{not-continuous}
-use mathlib.Core.Bool.{false}
 use Rattle.meaning.specs.declared.table.Kind.{Kind}
-use Rattle.meaning.specs.Bench.{full}
-use Rattle.meaning.specs.Command.{rangeWrong}
-use borrow.Author.Needs.{needs}
+use Rattle.meaning.proofs.Terms.{full, rangeWrong}
 use Rattle.command.proofs.range_wrong.Statement.{statement}
 use Rattle.command.proofs.range_wrong.Tie as tie
 
 enum-told : tie.Need-enum-told
 enum-told c = search needs
-
-past-region-requires : tie.Need-past-region-requires
-past-region-requires c κs = search needs
 
 returns : tie.Need-returns
 unfolding rangeWrong
@@ -20,7 +15,8 @@ returns c = rw (c .before .enum-told .given .1) (c .past-region .ensures)
 
 returns-2 : tie.Need-returns-2
 unfolding rangeWrong
-returns-2 c = not-continuous (λ (k : Kind). false ≡ rangeWrong (full .region) k (c .before .args .m)) (c .before .args .kind) (c .match .keys2) (λ p. refl) refl (λ g. refl) refl
+returns-2 c = not-continuous (λ (k : Kind). false ≡ rangeWrong (full .region) k (c .before .args .m)) (c .before .args .kind)
+    (c .match .keys2) (λ p. refl) refl (λ g. refl) refl
 
 pub range-wrong-spec : {M : Type 1} → statement M
-range-wrong-spec = tie.close (tie.spec enum-told past-region-requires returns returns-2)
+range-wrong-spec = tie.close (tie.spec enum-told (λ c κs. search needs) returns returns-2)

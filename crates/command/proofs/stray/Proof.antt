@@ -1,6 +1,5 @@
-use mathlib.Core.Path.{sym}
-use borrow.Author.Tests.{eq-eqb, ne-eqb}
-use Rattle.units.proofs.Choice.{yes-and, no-and}
+-- A word that is not used must be 0.
+use Rattle.units.proofs.Common.{sym, eq-eqb, ne-eqb, yes-and, no-and}
 use Rattle.meaning.specs.Command.{stray}
 use Rattle.command.proofs.stray.Statement.{statement}
 use Rattle.command.proofs.stray.Tie as tie

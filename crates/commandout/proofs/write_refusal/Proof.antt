@@ -1,17 +1,12 @@
+-- The row's doubts, of the row that the command has in the table.
 use Rattle.meaning.specs.Command.{writeRefusal}
-use borrow.Author.Needs.{needs}
+use Rattle.units.proofs.Common.{needs}
 use Rattle.commandout.proofs.write_refusal.Statement.{statement}
 use Rattle.commandout.proofs.write_refusal.Tie as tie
-
-row-of-requires : tie.Need-row-of-requires
-row-of-requires c κs = search needs
-
-row-refusal-requires : tie.Need-row-refusal-requires
-row-refusal-requires c κs = search needs
 
 returns : tie.Need-returns
 unfolding writeRefusal
 returns c = rw (← (c .before .row-of .ensures)) (c .row-refusal .ensures)
 
 pub write-refusal-spec : {M : Type 1} → statement M
-write-refusal-spec = tie.close (tie.spec row-of-requires row-refusal-requires returns)
+write-refusal-spec = tie.close (tie.spec (λ c κs. search needs) (λ c κs. search needs) returns)

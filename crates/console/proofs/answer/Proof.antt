@@ -1,12 +1,6 @@
 -- The lines' answers have room, since a line has a byte at least.
 -- Assumes nothing.
-use Prim.Native.Nat.{_≤_}
-use mathlib.Core.Path.{sym}
-use native.Mathlib.Omega.{arith}
-use denote.Ref.{now}
-use lib.ListN.{length}
-use lib.Seq.{length-take-le}
-use borrow.Author.Needs.{needs}
+use Rattle.units.proofs.Common.{sym, _≤_, arith, length, length-take-le, now, needs}
 use Rattle.text.proofs.Writing.{put-length}
 use Rattle.console.proofs.Lines.{lines-few}
 use Rattle.console.proofs.answer.Statement.{statement}
@@ -17,11 +11,14 @@ speak-requires c κs =
     let s = c .before .before .before .before .before .before .before in
     (s .pre .0, omega (arith, lines-few (now (s .args .lines)), s .pre .1))
 
-written : (k : tie.After-speak) → k .speak .result .at ≤ length (now (k .before .before .before .before .before .before .before .before .args .out))
+written : (k : tie.After-speak) → k .speak .result .at ≤ length
+    (now (k .before .before .before .before .before .before .before .before .args .out))
 written k = k .speak .ensures .fits
 
 prefix : tie.Need-slice-reshare-prefix-put
-prefix c = let k = c .before .before .before .before .before .before in omega (arith, k .speak .ensures .fits, put-length (k .speak .ensures .wrote))
+prefix c =
+    let k = c .before .before .before .before .before .before in
+    omega (arith, k .speak .ensures .fits, put-length (k .speak .ensures .wrote))
 
 slice-aggregate-put : tie.Need-slice-aggregate-put
 slice-aggregate-put c = sym (length-take-le _ _ (prefix (c .before)))
@@ -30,6 +27,5 @@ returns : tie.Need-returns
 returns c = c .before .before .before .before .before .before .before .before .before .speak .ensures .sound
 
 pub answer-spec : {M : Type 1} → statement M
-answer-spec =
-    tie.close
-    (tie.spec speak-requires prefix slice-aggregate-put (λ c κs. search needs) (λ c. search needs) (λ c. search needs) (λ c. search needs) returns)
+answer-spec = tie.close (tie.spec speak-requires prefix slice-aggregate-put (λ c κs. search needs) (λ c. search needs)
+    (λ c. search needs) (λ c. search needs) returns)

@@ -1,9 +1,6 @@
 -- All places are inside what is kept and the piece behind it, which have room.
 -- Assumes nothing.
-use mathlib.Core.Path.{sym}
-use native.Mathlib.Omega.{arith}
-use lib.Seq.{length-take-le}
-use borrow.Author.Needs.{needs}
+use Rattle.units.proofs.Common.{sym, arith, length-take-le, needs}
 use Rattle.console.proofs.hear.Statement.{statement}
 use Rattle.console.proofs.hear.Tie as tie
 
@@ -26,10 +23,14 @@ answer-requires c κs =
     (s .pre .0, omega (arith, lines-long (c .before .before .before), w .whole-lines .ensures, long (w .before), s .pre .1))
 
 keep-requires : tie.Need-keep-requires
-keep-requires c κs = let w = c .before .before .before .before .before .before .before .before .before .before .before .before in (omega (arith, w .whole-lines .ensures, long (w .before)), inside (w .before .before))
+keep-requires c κs =
+    let w = c .before .before .before .before .before .before .before .before .before .before .before .before in
+    (omega (arith, w .whole-lines .ensures, long (w .before)), inside (w .before .before))
 
 pub hear-spec : {M : Type 1} → statement M
-hear-spec =
-    tie.close
-    (tie.spec (λ c κs. search needs) (λ c. search needs) inside long (λ c κs. search needs) lines-inside lines-long answer-requires keep-requires
-    (λ c. search needs) (λ c. search needs) (λ c. search needs) (λ c. search needs) (λ c. (c .before .before .before .keep .ensures, c .before .before .before .before .before .before .before .before .before .before .before .answer .ensures)))
+hear-spec = tie.close (tie.spec (λ c κs. search needs) (λ c. search needs) inside long (λ c κs. search needs) lines-inside lines-long
+    answer-requires keep-requires (λ c. search needs) (λ c. search needs) (λ c. search needs) (λ c. search needs)
+    (λ c. (
+      c .before .before .before .keep .ensures,
+      c .before .before .before .before .before .before .before .before .before .before .before .answer .ensures,
+    )))

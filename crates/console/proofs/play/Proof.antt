@@ -1,10 +1,6 @@
 -- The array has as many bytes as it was made with, by the law of `replicate` and not by counting them.
 -- Assumes nothing.
-use Prim.Native.Nat.{ℕ, _≤_}
-use mathlib.Core.Path.{_≡_, sym}
-use mathlib.Core.List.{List}
-use native.Mathlib.Omega.{arith}
-use lib.ListN.{length, replicate, length-replicate}
+use Rattle.units.proofs.Common.{sym, _≡_, List, ℕ, _≤_, arith, length, replicate, length-replicate}
 use Rattle.console.proofs.play.Statement.{statement}
 use Rattle.console.proofs.play.Tie as tie
 

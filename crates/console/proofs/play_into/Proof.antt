@@ -1,16 +1,10 @@
 -- What is lent to a call comes back as long as it was, and the machine stays consistent.
 -- Assumes nothing.
-use Prim.Native.Nat.{ℕ, _-_, _≤_}
-use mathlib.Core.Path.{_≡_, refl, sym, _∙_}
-use native.Mathlib.Omega.{arith}
-use lib.ListN.{length, replicate, length-replicate}
-use lib.Seq.{length-take-le}
-use Rattle.meaning.specs.Bench.{full}
-use Rattle.state.specs.Machine.{machine}
-use Rattle.state.specs.Consistent.{unfit}
+use Rattle.units.proofs.Common.{sym, _∙_, _≡_, refl, ℕ, _≤_, _-_, arith, length, replicate, length-replicate, length-take-le, needs}
+use Rattle.meaning.proofs.Terms.{full}
+use Rattle.state.proofs.Terms.{machine, unfit}
 use Rattle.promise.proofs.Parts.{parts}
 use Rattle.blank.proofs.Blank.{blank-fit}
-use borrow.Author.Needs.{needs}
 use Rattle.console.proofs.play_into.Statement.{statement}
 use Rattle.console.proofs.play_into.Tie as tie
 
@@ -39,15 +33,20 @@ piece-long c = sym (length-take-le _ _ (prefix (c .before)))
 
 hear-requires : tie.Need-hear-requires Inv-loop μ-loop
 hear-requires c κs =
-    let t = c .before .before .before .before .before .before .before .before .before .take in
-    let v = c .before .before .before .before .before .before .before .before .before .before .before .before .loop .inv in
-    (v .4, (omega (arith, piece-long (c .before .before .before), t .ensures, t .kept, v), omega (arith, v, c .before .before .before .before .before .before .before .before .before .before .before .before .before .before .before .before .before .pre)))
+    let p = c .before .before .before .before .before .before .before .before .before in
+    let l = p .before .before .before in let s = l .before .before .before .before .before in
+    let t = p .take in
+    let v = l .loop .inv in
+    (v .4, (omega (arith, piece-long (c .before .before .before), t .ensures, t .kept, v), omega (arith, v, s .pre)))
 
 loop-again : tie.Need-loop-again Inv-loop μ-loop
 loop-again c =
-    let h = c .before .before .before .before .before .before .before .before .hear in
-    let t = c .before .before .before .before .before .before .before .before .before .before .before .before .before .before .before .before .before .before .take in
-    let v = c .before .before .before .before .before .before .before .before .before .before .before .before .before .before .before .before .before .before .before .before .before .loop .inv in
+    let p = c .before .before .before .before .before .before .before .before in
+    let q = p .before .before .before .before .before .before .before .before .before .before in
+    let l = q .before .before .before in
+    let h = p .hear in
+    let t = q .take in
+    let v = l .loop .inv in
     (omega (arith, t .kept, v), omega (arith, h .kept, v), h .ensures .0, omega (arith, h .kept, v), h .ensures .1)
 
 -- ---- the last line lacks its line feed
@@ -59,18 +58,29 @@ last-long c = sym (length-take-le _ _ (last-inside (c .before)))
 
 answer-requires : tie.Need-answer-requires Inv-loop μ-loop
 answer-requires c κs =
-    let v = c .before .before .before .before .before .before .loop .inv in
-    (v .4, omega (arith, last-long (c .before .before .before), v, c .before .before .before .before .before .before .before .before .before .before .before .pre))
+    let l = c .before .before .before .before .before .before in let s = l .before .before .before .before .before in
+    let v = l .loop .inv in
+    (v .4, omega (arith, last-long (c .before .before .before), v, s .pre))
 
 pub play-into-spec : {M : Type 1} → statement M
-play-into-spec =
-    tie.close
-    (tie.spec Inv-loop μ-loop (λ c. search needs) (λ c κs. search needs) loop-holds (λ c. sym (c .before .before .loop .inv .0)) (λ c κs. search needs)
-    (λ c. search needs) (λ c κs. search needs) (λ c. c .before .before .before .before .before .before .before .before .loop .inv .3) (λ c. search needs)
-    (λ c. sym (c .before .before .before .before .before .before .before .before .loop .inv .1)) prefix piece-long (λ c. sym (parts full _ (c .before .before .before .before .before .before .before .before .before .before .loop .inv .4) .store))
-    (λ c. sym (parts full _ (c .before .before .before .before .before .before .before .before .before .before .before .loop .inv .4) .memory)) hear-requires
-    (λ c. let h = c .before .before .before .before .before .before .before .hear in let v = c .before .before .before .before .before .before .before .before .before .before .before .before .before .before .before .before .before .before .before .before .loop .inv in omega (arith, h .kept, v)) (λ c. search needs)
-    (λ c. omega arith) (λ c. omega arith) loop-again
-    last-inside last-long (λ c. sym (parts full _ (c .before .before .before .before .loop .inv .4) .store)) (λ c. sym (parts full _ (c .before .before .before .before .before .loop .inv .4) .memory))
-    answer-requires (λ c. let a = c .before .before .before .before .answer in let v = c .before .before .before .before .before .before .before .before .before .before .before .loop .inv in omega (arith, a .kept, v)) (λ c. search needs)
-    (λ c. c .before .before .loop .inv .3) (λ c. search needs))
+play-into-spec = tie.close (tie.spec Inv-loop μ-loop (λ c. search needs) (λ c κs. search needs) loop-holds
+    (λ c. sym (c .before .before .loop .inv .0)) (λ c κs. search needs) (λ c. search needs) (λ c κs. search needs)
+    (λ c. c .before .before .before .before .before .before .before .before .loop .inv .3)
+    (λ c. search needs)
+    (λ c. sym (c .before .before .before .before .before .before .before .before .loop .inv .1))
+    prefix piece-long
+    (λ c. sym (parts full _ (c .before .before .before .before .before .before .before .before .before .before .loop .inv .4) .store))
+    (λ c. sym (parts full _
+    (c .before .before .before .before .before .before .before .before .before .before .before .loop .inv .4) .memory))
+    hear-requires
+    (λ c. let p = c .before .before .before .before .before .before .before in
+    let v = p .before .before .before .before .before .before .before .before .before .before .before .before .before .loop .inv in
+    omega (arith, p .hear .kept, v))
+    (λ c. search needs) (λ c. omega arith) (λ c. omega arith) loop-again last-inside last-long
+    (λ c. sym (parts full _ (c .before .before .before .before .loop .inv .4) .store))
+    (λ c. sym (parts full _ (c .before .before .before .before .before .loop .inv .4) .memory))
+    answer-requires
+    (λ c. let a = c .before .before .before .before .answer in
+    let v = c .before .before .before .before .before .before .before .before .before .before .before .loop .inv in
+    omega (arith, a .kept, v))
+    (λ c. search needs) (λ c. c .before .before .loop .inv .3) (λ c. search needs))

@@ -1,9 +1,6 @@
 -- From the end on, byte by byte.
 -- Assumes nothing.
-use Prim.Native.Nat.{_≤_}
-use native.Mathlib.Omega.{arith}
-use lib.ListN.{length}
-use borrow.Author.Needs.{needs}
+use Rattle.units.proofs.Common.{_≤_, arith, length, needs}
 use Rattle.console.proofs.whole_lines.Statement.{statement}
 use Rattle.console.proofs.whole_lines.Tie as tie
 
@@ -14,7 +11,5 @@ abbrev μ-loop : tie.MeasureT-loop
 μ-loop input n₀ n = n
 
 pub whole-lines-spec : {M : Type 1} → statement M
-whole-lines-spec =
-    tie.close
-    (tie.spec Inv-loop μ-loop (λ c. omega arith) (λ c. omega arith) (λ c. omega arith) (λ c. omega arith) (λ c. omega arith) (λ c. omega arith)
-    (λ c. omega arith) (λ c. omega arith))
+whole-lines-spec = tie.close (tie.spec Inv-loop μ-loop (λ c. omega arith) (λ c. omega arith) (λ c. omega arith) (λ c. omega arith)
+    (λ c. omega arith) (λ c. omega arith) (λ c. omega arith) (λ c. omega arith))

@@ -1,10 +1,6 @@
-use borrow.Author.Needs.{needs}
-use native.Mathlib.Omega.{arith}
-use Prim.Native.Nat.{ℕ, _+_, _-_, _≤_}
-use mathlib.Core.Path.{_≡_, refl, sym, ap, _∙_}
-use mathlib.Core.List.{List, _++_}
-use lib.ListN.{length, take, drop, getD, length-append}
-use lib.Seq.{take-all}
+-- After so many steps the words of the first lists stand one behind the other; at the end that is the store without gaps.
+use Rattle.units.proofs.Common.{sym, _∙_, _≡_, refl, ap, List, _++_, ℕ, _≤_, _-_, _+_, arith, length, drop, getD, take, length-append}
+use Rattle.units.proofs.Common.{take-all, needs}
 use Rattle.placed.proofs.InOrder.{blank, node-any}
 use Rattle.state.proofs.Lists.{length-mapped}
 use Rattle.moves.specs.Moved.{putIn}
@@ -52,48 +48,25 @@ loop-holds : tie.Need-loop-holds Inv-loop μ-loop
 unfolding runsOf
 loop-holds c = (omega arith, refl, refl, put-none _ _)
 
-mul-n : tie.Need-mul-n Inv-loop μ-loop
-mul-n c = search needs
-
-array-copy-out-n : tie.Need-array-copy-out-n Inv-loop μ-loop
-array-copy-out-n c = search needs
-
-cast-end : tie.Need-cast-end Inv-loop μ-loop
-cast-end c = search needs
-
 add-end : tie.Need-add-end Inv-loop μ-loop
 add-end c = record { fits = omega (arith, turn (c .before .before .before) .0) }
 
 mul-copy-in : tie.Need-mul-copy-in Inv-loop μ-loop
 mul-copy-in c = record { fits = omega (arith, turn (c .before .before .before) .0) }
 
-sub-copy-in : tie.Need-sub-copy-in Inv-loop μ-loop
-sub-copy-in c = search needs
-
-part-copy-in-start : tie.Need-part-copy-in-start Inv-loop μ-loop
-part-copy-in-start c = search needs
-
 part-copy-in-end : tie.Need-part-copy-in-end Inv-loop μ-loop
 part-copy-in-end c = omega (arith, turn (c .before .before .before) .0)
 
 copy-in-requires : tie.Need-copy-in-requires Inv-loop μ-loop
 copy-in-requires c κs =
-    let n = getD (c .before .before .before .before .before .before .before .before .before .args .t1) (c .before .before .before .before .before .before .loop .k) blank in
+    let p = c .before .before .before .before .before in let a = p .before .before .before .before .args in
+    let n = getD (a .t1) (p .before .loop .k) blank in
     let d : (n .list .place + n .list .words .0) - n .list .place ≡ n .list .words .0 = omega arith in
-    let t = turn (c .before .before .before .before .before) in
-    rw (d, t .2) (omega (arith, t .4, c .before .before .before .before .before .before .loop .inv .1))
-
-cast-to : tie.Need-cast-to Inv-loop μ-loop
-cast-to c = search needs
+    let t = turn p in
+    rw (d, t .2) (omega (arith, t .4, p .before .loop .inv .1))
 
 add-to : tie.Need-add-to Inv-loop μ-loop
 add-to c = record { fits = omega (arith, turn (c .before .before .before .before .before .before .before .before .before) .4) }
-
-add-k : tie.Need-add-k Inv-loop μ-loop
-add-k c = search needs
-
-loop-less : tie.Need-loop-less Inv-loop μ-loop
-loop-less c = search needs
 
 loop-again : tie.Need-loop-again Inv-loop μ-loop
 loop-again c =
@@ -113,9 +86,6 @@ loop-again c =
           ∙ ap (putIn (a .out .now) 0) (sym (t .1)),
     )
 
-same-length : tie.Need-same-length Inv-loop μ-loop
-same-length c = search needs
-
 returns : tie.Need-returns Inv-loop μ-loop
 returns c =
     let ns = c .before .before .before .before .args .t1 in
@@ -123,25 +93,6 @@ returns c =
     rw (take-all (c .before .loop .k) ns (omega arith)) at (c .before .loop .inv .3)
 
 pub lay-spec : {M : Type 1} → statement M
-lay-spec =
-    tie.close
-    (tie.spec
-    Inv-loop
-    μ-loop
-    loop-holds
-    mul-n
-    array-copy-out-n
-    cast-end
-    add-end
-    mul-copy-in
-    sub-copy-in
-    part-copy-in-start
-    part-copy-in-end
-    copy-in-requires
-    cast-to
-    add-to
-    add-k
-    loop-less
-    loop-again
-    same-length
-    returns)
+lay-spec = tie.close (tie.spec Inv-loop μ-loop loop-holds (λ c. search needs) (λ c. search needs) (λ c. search needs) add-end
+    mul-copy-in (λ c. search needs) (λ c. search needs) part-copy-in-end copy-in-requires (λ c. search needs) add-to (λ c. search needs)
+    (λ c. search needs) loop-again (λ c. search needs) returns)

@@ -1,9 +1,7 @@
-use borrow.Author.Needs.{needs}
-use mathlib.Core.Path.{_≡_, sym, ap, _∙_}
-use mathlib.Core.List.{List}
-use Rattle.meaning.specs.Bench.{full}
-use Rattle.state.specs.Machine.{Machine, machine}
-use Rattle.state.specs.Consistent.{unfit}
+-- A machine in order has its places added up by `with_places`, and the store stays; one that is not is refused.
+use Rattle.units.proofs.Common.{sym, _∙_, _≡_, ap, List, needs}
+use Rattle.meaning.proofs.Terms.{full}
+use Rattle.state.proofs.Terms.{Machine, machine, unfit}
 use Rattle.promise.proofs.Parts.{parts}
 use Rattle.store.proofs.Promised.{sum-inside}
 use Rattle.placed.specs.Machine as P
@@ -16,16 +14,11 @@ abbrev given : (c : tie.Start) → Machine
 given c = machine (c .args .s) (c .args .store .now) (c .args .plaques .now)
 
 abbrev left : (c : tie.Start) → List O.Node → P.Machine
-left c ns = P.machine (record { name = c .args .s .name; readers = c .args .s .readers; nodes = ns }) (c .args .store .now) (c .args .plaques .now)
+left c ns = P.machine (record { name = c .args .s .name; readers = c .args .s .readers; nodes = ns }) (c .args .store .now)
+    (c .args .plaques .now)
 
 fits : (c : tie.Else1) → unfit full (given (c .before .before .before .before .before .before)) ≡ 0
 fits c = sym (c .before .before .before .unfit .ensures) ∙ c .if1 .left
-
-unfit-requires : tie.Need-unfit-requires
-unfit-requires c κs = search needs
-
-silent-placed-requires : tie.Need-silent-placed-requires
-silent-placed-requires c κs = search needs
 
 returns : tie.Need-returns
 returns c = record {
@@ -48,6 +41,4 @@ returns-2 c = record {
 }
 
 pub to-old-spec : {M : Type 1} → statement M
-to-old-spec =
-    tie.close
-    (tie.spec unfit-requires silent-placed-requires returns with-places-requires returns-2)
+to-old-spec = tie.close (tie.spec (λ c κs. search needs) (λ c κs. search needs) returns with-places-requires returns-2)

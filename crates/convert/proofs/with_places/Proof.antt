@@ -1,18 +1,8 @@
-use borrow.Author.Needs.{needs}
-use native.Mathlib.Omega.{arith}
-use Prim.Native.Nat.{ℕ, _+_, _-_, _≤_, _<_}
-use mathlib.Core.List.{List}
-use mathlib.Core.Path.{_≡_, refl, sym, ap, _∙_}
-use mathlib.Core.Logic.{⊎-elim}
-use mathlib.Core.Bool.{cond}
-use lib.Dec.{eqb}
-use lib.ListN.{length, take, getD, length-set, length-map, List·getD-map}
-use lib.Seq.{take-all}
-use borrow.Author.Tests.{eq-eqb, ne-eqb}
+-- After so many steps the place to come is where the words of the nodes passed end, as `oldNodes` counts it.
+use Rattle.units.proofs.Common.{sym, _∙_, _≡_, refl, ap, ⊎-elim, cond, List, ℕ, _≤_, _-_, _+_, _<_, arith, eqb, length, getD, take}
+use Rattle.units.proofs.Common.{length-set, length-map, List·getD-map, take-all, eq-eqb, ne-eqb, needs, yes-cond, no-cond}
 use Rattle.units.specs.declared.Words.{Words}
-use Rattle.units.proofs.Choice.{yes-cond, no-cond}
-use Rattle.state.specs.State.{nothing}
-use Rattle.state.specs.Consistent.{counts}
+use Rattle.state.proofs.Terms.{nothing, counts}
 use Rattle.state.proofs.Lists.{length-mapped}
 use Rattle.state.specs.declared.node.Node.{Node}
 use Rattle.state.proofs.Read.{blank}
@@ -37,42 +27,16 @@ held17 : (c : tie.Start Inv-loop μ-loop) → length (c .args .t2) ≡ 17
 held17 c = search (needs, length-mapped)
 
 -- the words of one node more
-more : (c : tie.Start Inv-loop μ-loop) (k : ℕ) → k < 17 → placeOf (counts (c .args .t2)) (k + 1) ≡ placeOf (counts (c .args .t2)) k + getD (c .args .t2) k nothing .0
+more : (c : tie.Start Inv-loop μ-loop) (k : ℕ) → k < 17 → placeOf (counts (c .args .t2)) (k + 1) ≡ placeOf (counts (c .args .t2)) k + getD
+    (c .args .t2) k nothing .0
 more c k h =
     let hs : List Words = c .args .t2 in
     let l : length (counts hs) ≡ 17 = length-map hs (λ (w : Words). w .0) ∙ held17 c in
     place-suc (counts hs) k (omega arith) ∙ ap (λ (x : ℕ). placeOf (counts hs) k + x) (List·getD-map (λ (w : Words). w .0) hs k nothing)
 
-silent-placed-requires : tie.Need-silent-placed-requires Inv-loop μ-loop
-silent-placed-requires c κs = search needs
-
 loop-holds : tie.Need-loop-holds Inv-loop μ-loop
 unfolding oldNodes sum
 loop-holds c = (omega arith, ap length (c .silent-placed .ensures), refl, refl)
-
-mul-n : tie.Need-mul-n Inv-loop μ-loop
-mul-n c = search needs
-
-array-copy-out-n : tie.Need-array-copy-out-n Inv-loop μ-loop
-array-copy-out-n c = search needs
-
-mul-words : tie.Need-mul-words Inv-loop μ-loop
-mul-words c = search needs
-
-array-copy-out-words : tie.Need-array-copy-out-words Inv-loop μ-loop
-array-copy-out-words c = search needs
-
-cast-ns : tie.Need-cast-ns Inv-loop μ-loop
-cast-ns c = search needs
-
-mul-ns : tie.Need-mul-ns Inv-loop μ-loop
-mul-ns c = search needs
-
-array-set-from-ns : tie.Need-array-set-from-ns Inv-loop μ-loop
-array-set-from-ns c = search needs
-
-cast-to : tie.Need-cast-to Inv-loop μ-loop
-cast-to c = search needs
 
 add-to : tie.Need-add-to Inv-loop μ-loop
 add-to c =
@@ -80,17 +44,12 @@ add-to c =
     let s = c .before .before .before .before .before .before .before .before .before in
     record { fits = omega (arith, more s (l .k) (omega arith), place-in (counts (s .args .t2)) (l .k + 1), s .pre, l .inv .2) }
 
-add-k : tie.Need-add-k Inv-loop μ-loop
-add-k c = search needs
-
-loop-less : tie.Need-loop-less Inv-loop μ-loop
-loop-less c = search needs
-
 loop-again : tie.Need-loop-again Inv-loop μ-loop
 unfolding oldNodes
 loop-again c =
-    let l = c .before .before .before .before .before .before .before .loop in
-    let s = c .before .before .before .before .before .before .before .before .before in
+    let q = c .before .before .before .before .before .before .before in
+    let l = q .loop in
+    let s = q .before .before in
     let ns = s .args .t1 in
     let hs = s .args .t2 in
     let m : ℕ = getD ns (l .k) blank .answers in
@@ -103,7 +62,8 @@ loop-again c =
       omega arith,
       simp length-set (l .inv .1),
       omega (arith, more s (l .k) (omega arith), l .inv .2),
-      old-filled ns hs (l .ns) (l .k) (l .to) blank nothing _ (omega (arith, nodes17 s)) (held17 s ∙ sym (nodes17 s)) (omega (arith, l .inv .1)) (l .inv .2) (l .inv .3) (rw p),
+      old-filled ns hs (l .ns) (l .k) (l .to) blank nothing _ (omega (arith, nodes17 s)) (held17 s ∙ sym (nodes17 s))
+          (omega (arith, l .inv .1)) (l .inv .2) (l .inv .3) (rw p),
     )
 
 returns : tie.Need-returns Inv-loop μ-loop
@@ -117,23 +77,6 @@ returns c =
     ∙ ap (oldNodes 0 (s .args .t1)) (take-all (l .k) (s .args .t2) (omega arith))
 
 pub with-places-spec : {M : Type 1} → statement M
-with-places-spec =
-    tie.close
-    (tie.spec
-    Inv-loop
-    μ-loop
-    silent-placed-requires
-    loop-holds
-    mul-n
-    array-copy-out-n
-    mul-words
-    array-copy-out-words
-    cast-ns
-    mul-ns
-    array-set-from-ns
-    cast-to
-    add-to
-    add-k
-    loop-less
-    loop-again
-    returns)
+with-places-spec = tie.close (tie.spec Inv-loop μ-loop (λ c κs. search needs) loop-holds (λ c. search needs) (λ c. search needs)
+    (λ c. search needs) (λ c. search needs) (λ c. search needs) (λ c. search needs) (λ c. search needs) (λ c. search needs) add-to
+    (λ c. search needs) (λ c. search needs) loop-again returns)

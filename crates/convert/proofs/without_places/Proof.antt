@@ -1,10 +1,5 @@
-use borrow.Author.Needs.{needs}
-use native.Mathlib.Omega.{arith}
-use Prim.Native.Nat.{_-_, _≤_}
-use mathlib.Core.Path.{_≡_, refl, sym, ap, _∙_}
-use mathlib.Core.List.{map}
-use lib.ListN.{length, take, length-set}
-use lib.Seq.{take-all}
+-- After so many steps the nodes passed have lost their places, and the others are still fresh; at the end that is `map`.
+use Rattle.units.proofs.Common.{sym, _∙_, _≡_, refl, ap, map, _≤_, _-_, arith, length, take, length-set, take-all, needs}
 use Rattle.placed.proofs.InOrder.{blank, node-any}
 use Rattle.state.proofs.Lists.{length-mapped}
 use Rattle.convert.specs.Convert.{newNode}
@@ -21,17 +16,8 @@ abbrev μ-loop : tie.MeasureT-loop
 nodes17 : (c : tie.Start Inv-loop μ-loop) → length (c .args .t1) ≡ 17
 nodes17 c = search (needs, length-mapped)
 
-silent-requires : tie.Need-silent-requires Inv-loop μ-loop
-silent-requires c κs = search needs
-
 loop-holds : tie.Need-loop-holds Inv-loop μ-loop
 loop-holds c = (omega arith, ap length (c .silent .ensures), refl)
-
-mul-n : tie.Need-mul-n Inv-loop μ-loop
-mul-n c = search needs
-
-array-copy-out-n : tie.Need-array-copy-out-n Inv-loop μ-loop
-array-copy-out-n c = search needs
 
 cast-t14 : tie.Need-cast-t14 Inv-loop μ-loop
 cast-t14 c =
@@ -40,18 +26,6 @@ cast-t14 c =
     let n = nodes17 s in
     let e = node-any (s .args .t1) k (omega arith) in
     record { fits = rw e (omega (arith, s .pre k (omega arith))) }
-
-mul-ns : tie.Need-mul-ns Inv-loop μ-loop
-mul-ns c = search needs
-
-array-set-from-ns : tie.Need-array-set-from-ns Inv-loop μ-loop
-array-set-from-ns c = search needs
-
-add-k : tie.Need-add-k Inv-loop μ-loop
-add-k c = search needs
-
-loop-less : tie.Need-loop-less Inv-loop μ-loop
-loop-less c = search needs
 
 loop-again : tie.Need-loop-again Inv-loop μ-loop
 loop-again c =
@@ -69,19 +43,5 @@ returns c =
     sym (take-all (l .k) (l .ns) (omega (arith, l .inv .1))) ∙ l .inv .2 ∙ ap (map newNode) (take-all (l .k) ns (omega arith))
 
 pub without-places-spec : {M : Type 1} → statement M
-without-places-spec =
-    tie.close
-    (tie.spec
-    Inv-loop
-    μ-loop
-    silent-requires
-    loop-holds
-    mul-n
-    array-copy-out-n
-    cast-t14
-    mul-ns
-    array-set-from-ns
-    add-k
-    loop-less
-    loop-again
-    returns)
+without-places-spec = tie.close (tie.spec Inv-loop μ-loop (λ c κs. search needs) loop-holds (λ c. search needs) (λ c. search needs)
+    cast-t14 (λ c. search needs) (λ c. search needs) (λ c. search needs) (λ c. search needs) loop-again returns)

@@ -1,10 +1,9 @@
 -- `put_handed` writes the line of an answer handed over: its beginning, word 00 where the form has it, and the words (laws of `Collected`).
 -- Assumes nothing.
-use native.Mathlib.Omega.{arith}
+use Rattle.units.proofs.Common.{arith, needs}
 use Rattle.meaning.proofs.Chain.{flag}
 use Rattle.text.proofs.Writing.{put-length, length-hex, decimal-short}
 use Rattle.dialogout.proofs.Collected.{begun, collected-headed, collected-bare}
-use borrow.Author.Needs.{needs}
 use Rattle.dialogout.proofs.put_handed.Statement.{statement}
 use Rattle.dialogout.proofs.put_handed.Tie as tie
 
@@ -93,20 +92,6 @@ returns-2 c =
     collected-bare b (a .form) (a .node) (a .words .now) (flag (i .before .bears .ensures) (i .if1 .left)) (y .put-words2 .ensures)
 
 pub put-handed-spec : {M : Type 1} → statement M
-put-handed-spec =
-    tie.close
-    (tie.spec
-    (λ c. search needs)
-    (λ c κs. search needs)
-    put-decimal-requires
-    put-requires
-    (λ c κs. search needs)
-    (λ c κs. search needs)
-    put-hex-requires
-    put-requires-2
-    put-words-requires
-    (λ c. search needs)
-    returns
-    put-words-requires-2
-    (λ c. search needs)
-    returns-2)
+put-handed-spec = tie.close (tie.spec (λ c. search needs) (λ c κs. search needs) put-decimal-requires put-requires
+    (λ c κs. search needs) (λ c κs. search needs) put-hex-requires put-requires-2 put-words-requires (λ c. search needs) returns
+    put-words-requires-2 (λ c. search needs) returns-2)

@@ -1,91 +1,31 @@
+-- Each case writes its own line; a refusal its number too.
+-- Assumes nothing.
 use Rattle.promise.specs.Obeyed.{spoken}
 use Rattle.dialog.specs.Dialog.{saidLine}
-use Rattle.dialogout.proofs.Said.{said-as}
-use borrow.Author.Needs.{needs}
+use Rattle.units.proofs.Common.{needs}
 use Rattle.dialogout.proofs.put_said.Statement.{statement}
 use Rattle.dialogout.proofs.put_said.Tie as tie
-
-enum-known-reply : tie.Need-enum-known-reply
-enum-known-reply c = search needs
-
-put-refused-requires : tie.Need-put-refused-requires
-put-refused-requires c κs = search needs
 
 enum-told : tie.Need-enum-told
 enum-told c = search needs
 
-slice-aggregate-put-text : tie.Need-slice-aggregate-put-text
-slice-aggregate-put-text c = search needs
-
-put-text-requires : tie.Need-put-text-requires
-put-text-requires c κs = search needs
-
-enum-told-2 : tie.Need-enum-told-2
-enum-told-2 c = search needs
-
-slice-aggregate-put-text-2 : tie.Need-slice-aggregate-put-text-2
-slice-aggregate-put-text-2 c = search needs
-
-put-text-requires-2 : tie.Need-put-text-requires-2
-put-text-requires-2 c κs = search needs
-
-enum-told-3 : tie.Need-enum-told-3
-enum-told-3 c = search needs
-
-slice-aggregate-put-text-3 : tie.Need-slice-aggregate-put-text-3
-slice-aggregate-put-text-3 c = search needs
-
-put-text-requires-3 : tie.Need-put-text-requires-3
-put-text-requires-3 c κs = search needs
-
-same-length : tie.Need-same-length
-same-length c = search needs
-
 returns : tie.Need-returns
 unfolding spoken saidLine
-returns c = said-as (c .before .before .before .before .before .reply .given .1) (c .before .before .put-refused .ensures)
-
-same-length-2 : tie.Need-same-length-2
-same-length-2 c = search needs
+returns c = rw (c .before .before .before .before .before .reply .given .1) (c .before .before .put-refused .ensures)
 
 returns-2 : tie.Need-returns-2
 unfolding spoken saidLine
-returns-2 c = said-as (c .before .before .before .before .before .enum-told .given .1) (c .before .before .put-text .ensures)
-
-same-length-3 : tie.Need-same-length-3
-same-length-3 c = search needs
+returns-2 c = rw (c .before .before .before .before .before .enum-told .given .1) (c .before .before .put-text .ensures)
 
 returns-3 : tie.Need-returns-3
 unfolding spoken saidLine
-returns-3 c = said-as (c .before .before .before .before .before .enum-told2 .given .1) (c .before .before .put-text2 .ensures)
-
-same-length-4 : tie.Need-same-length-4
-same-length-4 c = search needs
+returns-3 c = rw (c .before .before .before .before .before .enum-told2 .given .1) (c .before .before .put-text2 .ensures)
 
 returns-4 : tie.Need-returns-4
 unfolding spoken saidLine
-returns-4 c = said-as (c .before .before .before .before .before .enum-told3 .given .1) (c .before .before .put-text3 .ensures)
+returns-4 c = rw (c .before .before .before .before .before .enum-told3 .given .1) (c .before .before .put-text3 .ensures)
 
 pub put-said-spec : {M : Type 1} → statement M
-put-said-spec =
-    tie.close
-    (tie.spec
-    enum-known-reply
-    put-refused-requires
-    enum-told
-    slice-aggregate-put-text
-    put-text-requires
-    enum-told-2
-    slice-aggregate-put-text-2
-    put-text-requires-2
-    enum-told-3
-    slice-aggregate-put-text-3
-    put-text-requires-3
-    same-length
-    returns
-    same-length-2
-    returns-2
-    same-length-3
-    returns-3
-    same-length-4
-    returns-4)
+put-said-spec = tie.close (tie.spec (λ c. search needs) (λ c κs. search needs) enum-told (λ c. search needs) (λ c κs. search needs)
+    (λ c. search needs) (λ c. search needs) (λ c κs. search needs) (λ c. search needs) (λ c. search needs) (λ c κs. search needs)
+    (λ c. search needs) returns (λ c. search needs) returns-2 (λ c. search needs) returns-3 (λ c. search needs) returns-4)

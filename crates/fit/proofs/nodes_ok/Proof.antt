@@ -1,13 +1,6 @@
-use borrow.Author.Needs.{needs}
-use native.Mathlib.Omega.{arith}
-use Prim.Native.Nat.{_-_, _≤_}
-use mathlib.Core.Path.{_≡_, sym, _∙_}
-use mathlib.Core.List.{List}
-use lib.ListN.{length, drop}
-use borrow.Author.Tests.{le-leb, lt-leb}
-use Rattle.units.specs.Count.{every}
-use Rattle.units.proofs.Choice.{yes-and, no-and}
-use Rattle.state.specs.Consistent.{nodeOk}
+-- The loop's invariant: all nodes are in order exactly where those from here on are.
+use Rattle.units.proofs.Common.{sym, _∙_, _≡_, List, _≤_, _-_, arith, length, drop, le-leb, lt-leb, needs, every, yes-and, no-and}
+use Rattle.state.proofs.Terms.{nodeOk}
 use Rattle.state.specs.declared.node.Node.{Node}
 use Rattle.state.proofs.Lists.{length-mapped, every-at, every-end}
 use Rattle.fit.proofs.nodes_ok.Statement.{statement}
@@ -19,34 +12,21 @@ Inv-loop nodes i₀ i = (i ≤ 17) × (every nodeOk nodes ≡ every nodeOk (drop
 abbrev μ-loop : tie.MeasureT-loop
 μ-loop nodes i₀ i = 17 - i
 
-loop-holds : tie.Need-loop-holds Inv-loop μ-loop
-loop-holds c = search needs
-
-mul-n : tie.Need-mul-n Inv-loop μ-loop
-mul-n c = search needs
-
-array-copy-out-n : tie.Need-array-copy-out-n Inv-loop μ-loop
-array-copy-out-n c = search needs
-
 returns : tie.Need-returns Inv-loop μ-loop
 unfolding nodeOk
 returns c =
-    let l : List Node = c .before .before .before .before .before .args .t1 in
+    let p = c .before .before .before .before in let a = p .before .args in
+    let l : List Node = a .t1 in
     let n : length l ≡ 17 = search (needs, length-mapped) in
-    sym (c .before .before .before .before .loop .inv .1 ∙ every-at nodeOk l (c .before .before .before .before .loop .i) _ (omega arith) ∙ no-and _ (lt-leb _ _ (c .if1 .taken)))
-
-add-i : tie.Need-add-i Inv-loop μ-loop
-add-i c = search needs
-
-loop-less : tie.Need-loop-less Inv-loop μ-loop
-loop-less c = search needs
+    sym (p .loop .inv .1 ∙ every-at nodeOk l (p .loop .i) _ (omega arith) ∙ no-and _ (lt-leb _ _ (c .if1 .taken)))
 
 loop-again : tie.Need-loop-again Inv-loop μ-loop
 unfolding nodeOk
 loop-again c =
-    let l : List Node = c .before .before .before .before .before .args .t1 in
+    let p = c .before .before .before .before in let a = p .before .args in
+    let l : List Node = a .t1 in
     let n : length l ≡ 17 = search (needs, length-mapped) in
-    (omega arith, c .before .before .before .before .loop .inv .1 ∙ every-at nodeOk l (c .before .before .before .before .loop .i) _ (omega arith) ∙ yes-and (le-leb 1 _ (c .if1 .left)))
+    (omega arith, p .loop .inv .1 ∙ every-at nodeOk l (p .loop .i) _ (omega arith) ∙ yes-and (le-leb 1 _ (c .if1 .left)))
 
 returns-2 : tie.Need-returns-2 Inv-loop μ-loop
 returns-2 c =
@@ -55,16 +35,5 @@ returns-2 c =
     sym (c .before .loop .inv .1 ∙ every-end nodeOk l (c .before .loop .i) (omega arith))
 
 pub nodes-ok-spec : {M : Type 1} → statement M
-nodes-ok-spec =
-    tie.close
-    (tie.spec
-    Inv-loop
-    μ-loop
-    loop-holds
-    mul-n
-    array-copy-out-n
-    returns
-    add-i
-    loop-less
-    loop-again
-    returns-2)
+nodes-ok-spec = tie.close (tie.spec Inv-loop μ-loop (λ c. search needs) (λ c. search needs) (λ c. search needs) returns
+    (λ c. search needs) (λ c. search needs) loop-again returns-2)

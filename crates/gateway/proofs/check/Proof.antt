@@ -1,53 +1,17 @@
-use mathlib.Core.Path.{refl, sym, _∙_}
-use denote.Ref.{now}
-use Rattle.meaning.specs.Bench.{full}
-use Rattle.meaning.specs.Call as S
-use Rattle.meaning.specs.Call.{refused}
-use Rattle.state.specs.Machine.{Machine, machine}
-use Rattle.state.specs.Consistent.{unfit}
+-- At fault, what is lent refuses a field check so; else the promise of its own crate is that of the call.
+use Rattle.units.proofs.Common.{sym, _∙_, refl, needs}
+use Rattle.meaning.proofs.Terms.{full}
 use Rattle.promise.specs.Obeyed.{spoken}
 use Rattle.promise.proofs.Promises.{unlent, by-step}
 use Rattle.answers.proofs.Replies.{called}
-use borrow.Author.Needs.{needs}
 use Rattle.gateway.proofs.check.Statement.{statement}
 use Rattle.gateway.proofs.check.Tie as tie
 
-unfit-requires : tie.Need-unfit-requires
-unfit-requires c κs = search needs
-
-refused-requires : tie.Need-refused-requires
-refused-requires c κs = search needs
-
-same-length : tie.Need-same-length
-same-length c = search needs
-
-returns : tie.Need-returns
-unfolding spoken
-returns c =
-    let s = c .before .before .before .before .before .before in let a = s .args in
-    let m : Machine = machine (a .s) (now (a .store)) (now (a .plaques)) in
-    called (c .refused .ensures) (unlent full m (S.check (a .node) (a .t) (a .clock)) _ (sym (c .before .before .unfit .ensures)) (c .before .if1 .taken))
-
-check-requires : tie.Need-check-requires
-check-requires c κs = sym (c .before .before .unfit .ensures) ∙ c .before .if1 .left
-
-same-length-2 : tie.Need-same-length-2
-same-length-2 c = search needs
-
-returns-2 : tie.Need-returns-2
-returns-2 c =
-    let s = c .before .before .before .before .before .before .before .before .before in let a = s .args in
-    let m : Machine = machine (a .s) (now (a .store)) (now (a .plaques)) in
-    by-step full m (S.check (a .node) (a .t) (a .clock)) (sym (c .before .before .before .before .before .unfit .ensures) ∙ c .before .before .before .before .if1 .left) refl (c .before .before .check .ensures)
-
 pub check-spec : {M : Type 1} → statement M
-check-spec =
-    tie.close
-    (tie.spec
-    unfit-requires
-    refused-requires
-    same-length
-    returns
-    check-requires
-    same-length-2
-    returns-2)
+unfolding spoken
+check-spec = tie.close (tie.spec (λ c κs. search needs) (λ c κs. search needs) (λ c. search needs)
+    (λ c. called (c .refused .ensures) (unlent full _ _ _ (sym (c .before .before .unfit .ensures)) (c .before .if1 .taken)))
+    (λ c κs. sym (c .before .before .unfit .ensures) ∙ c .before .if1 .left)
+    (λ c. search needs)
+    (λ c. by-step full _ _ (sym (c .before .before .before .before .before .unfit .ensures) ∙
+    c .before .before .before .before .if1 .left) refl (c .before .before .check .ensures)))

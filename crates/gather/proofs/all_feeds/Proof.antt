@@ -1,11 +1,6 @@
 -- The count is that of the line feeds of the blocks that were counted.
 -- Assumes nothing.
-use mathlib.Core.Path.{_≡_, refl}
-use native.Mathlib.Omega.{arith}
-use borrow.Author.Needs.{needs}
-use denote.Ref.{now}
-use Prim.Native.Nat.{_-_, _≤_}
-use lib.ListN.{length, take, drop}
+use Rattle.units.proofs.Common.{_≡_, refl, _≤_, _-_, arith, length, drop, take, now, needs}
 use Rattle.gather.proofs.Counts.{feedsIn, feeds-few, block-few, block-on, rest-on}
 use Rattle.gather.proofs.all_feeds.Statement.{statement}
 use Rattle.gather.proofs.all_feeds.Tie as tie
@@ -33,19 +28,5 @@ returns : tie.Need-returns Inv-loop μ-loop
 returns c = omega (arith, rest-on (now (c .before .before .before .before .args .bytes)) (c .before .before .loop .at))
 
 pub all-feeds-spec : {M : Type 1} → statement M
-all-feeds-spec =
-    tie.close
-    (tie.spec
-    Inv-loop
-    μ-loop
-    (λ c. (omega arith, omega arith, refl))
-    (λ c. search needs)
-    (λ c κs. search needs)
-    (λ c. search needs)
-    add-n
-    (λ c. search needs)
-    (λ c. search needs)
-    loop-again
-    (λ c κs. search needs)
-    add-result
-    returns)
+all-feeds-spec = tie.close (tie.spec Inv-loop μ-loop (λ c. (omega arith, omega arith, refl)) (λ c. search needs) (λ c κs. search needs)
+    (λ c. search needs) add-n (λ c. search needs) (λ c. search needs) loop-again (λ c κs. search needs) add-result returns)

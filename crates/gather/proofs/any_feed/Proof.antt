@@ -1,12 +1,6 @@
 -- Whether there is a line feed among the bytes that were looked at.
 -- Assumes nothing.
-use mathlib.Core.Path.{_≡_, refl, sym, _∙_}
-use mathlib.Core.Logic.{⊎-elim}
-use native.Mathlib.Omega.{arith}
-use borrow.Author.Needs.{needs}
-use denote.Ref.{now}
-use Prim.Native.Nat.{_-_, _≤_}
-use lib.ListN.{take, drop}
+use Rattle.units.proofs.Common.{sym, _∙_, _≡_, refl, ⊎-elim, _≤_, _-_, arith, drop, take, now, needs}
 use Rattle.gather.specs.Pieces.{fed}
 use Rattle.gather.proofs.Pieces.{block-fed, block-same}
 use Rattle.gather.proofs.any_feed.Statement.{statement}
@@ -37,15 +31,5 @@ returns : tie.Need-returns Inv-loop μ-loop
 returns c = let z : c .before .loop .k ≡ 16 = omega arith in c .before .loop .inv .1 ∙ rw z
 
 pub any-feed-spec : {M : Type 1} → statement M
-any-feed-spec =
-    tie.close
-    (tie.spec
-    Inv-loop
-    μ-loop
-    loop-holds
-    (λ c. search needs)
-    (λ c. search needs)
-    (λ c. search needs)
-    (λ c. search needs)
-    loop-again
-    returns)
+any-feed-spec = tie.close (tie.spec Inv-loop μ-loop loop-holds (λ c. search needs) (λ c. search needs) (λ c. search needs)
+    (λ c. search needs) loop-again returns)

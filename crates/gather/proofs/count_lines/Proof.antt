@@ -1,11 +1,6 @@
 -- Without bytes there is no line; else the last byte says whether the line feeds are all.
 -- Assumes nothing.
-use mathlib.Core.Path.{sym, ap, _∙_}
-use native.Mathlib.Omega.{arith}
-use borrow.Author.Needs.{needs}
-use denote.Ref.{now}
-use Prim.Native.Nat.{_-_}
-use lib.ListN.{length}
+use Rattle.units.proofs.Common.{sym, _∙_, ap, _-_, arith, length, now, needs}
 use Rattle.gather.proofs.Pieces.{lines-end}
 use Rattle.gather.proofs.Counts.{feeds-few, lines-whole, lines-part}
 use Rattle.gather.proofs.count_lines.Statement.{statement}
@@ -28,5 +23,5 @@ returns-3 c =
     omega (arith, c .before .before .all-feeds .ensures, lines-part (length bs - 1) bs (omega arith) (c .if2 .left))
 
 pub count-lines-spec : {M : Type 1} → statement M
-count-lines-spec =
-    tie.close (tie.spec returns (λ c κs. search needs) (λ c. search needs) (λ c. search needs) returns-2 add-result returns-3)
+count-lines-spec = tie.close (tie.spec returns (λ c κs. search needs) (λ c. search needs) (λ c. search needs) returns-2 add-result
+    returns-3)

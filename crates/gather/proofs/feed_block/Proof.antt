@@ -1,11 +1,6 @@
 -- From where the loop stands the line ends where it ends from its start: no block without a line feed holds its end.
 -- Assumes nothing.
-use mathlib.Core.Path.{_≡_, sym, _∙_}
-use native.Mathlib.Omega.{arith}
-use borrow.Author.Needs.{needs}
-use denote.Ref.{now}
-use Prim.Native.Nat.{_+_, _-_, _≤_}
-use lib.ListN.{length, drop}
+use Rattle.units.proofs.Common.{sym, _∙_, _≡_, _≤_, _-_, _+_, arith, length, drop, now, needs}
 use Rattle.gather.specs.Pieces.{lineIn}
 use Rattle.gather.proofs.Pieces.{block-past}
 use Rattle.gather.proofs.feed_block.Statement.{statement}
@@ -23,16 +18,5 @@ loop-again c =
     (omega arith, past (omega arith) (sym (c .before .any-feed .ensures) ∙ c .if1 .left) ∙ c .before .before .before .loop .inv .1)
 
 pub feed-block-spec : {M : Type 1} → statement M
-feed-block-spec =
-    tie.close
-    (tie.spec
-    Inv-loop
-    μ-loop
-    (λ c. search needs)
-    (λ c. search needs)
-    (λ c κs. search needs)
-    (λ c. search needs)
-    (λ c. search needs)
-    (λ c. search needs)
-    loop-again
-    (λ c. search needs))
+feed-block-spec = tie.close (tie.spec Inv-loop μ-loop (λ c. search needs) (λ c. search needs) (λ c κs. search needs) (λ c. search needs)
+    (λ c. search needs) (λ c. search needs) loop-again (λ c. search needs))

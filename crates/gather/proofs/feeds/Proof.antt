@@ -1,12 +1,6 @@
 -- The count is that of the line feeds among the bytes that were looked at.
 -- Assumes nothing.
-use mathlib.Core.Path.{_≡_, refl, _∙_}
-use mathlib.Core.Logic.{⊎-elim}
-use native.Mathlib.Omega.{arith}
-use borrow.Author.Needs.{needs}
-use denote.Ref.{now}
-use Prim.Native.Nat.{_-_, _≤_}
-use lib.ListN.{take, drop}
+use Rattle.units.proofs.Common.{_∙_, _≡_, refl, ⊎-elim, _≤_, _-_, arith, drop, take, now, needs}
 use Rattle.gather.proofs.Counts.{feedsIn, feed-next, other-next}
 use Rattle.gather.proofs.feeds.Statement.{statement}
 use Rattle.gather.proofs.feeds.Tie as tie
@@ -36,16 +30,5 @@ returns : tie.Need-returns Inv-loop μ-loop
 returns c = let z : c .before .loop .k ≡ 128 = omega arith in c .before .loop .inv .2 ∙ rw z
 
 pub feeds-spec : {M : Type 1} → statement M
-feeds-spec =
-    tie.close
-    (tie.spec
-    Inv-loop
-    μ-loop
-    loop-holds
-    (λ c. search needs)
-    (λ c. search needs)
-    (λ c. search needs)
-    (λ c. search needs)
-    (λ c. search needs)
-    loop-again
-    returns)
+feeds-spec = tie.close (tie.spec Inv-loop μ-loop loop-holds (λ c. search needs) (λ c. search needs) (λ c. search needs)
+    (λ c. search needs) (λ c. search needs) loop-again returns)

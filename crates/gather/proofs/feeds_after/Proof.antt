@@ -1,12 +1,6 @@
 -- The count, and the line feeds from where the loop stands, are those from its start.
 -- Assumes nothing.
-use mathlib.Core.Path.{_≡_}
-use mathlib.Core.Logic.{⊎-elim}
-use native.Mathlib.Omega.{arith}
-use borrow.Author.Needs.{needs}
-use denote.Ref.{now}
-use Prim.Native.Nat.{_+_, _-_, _≤_}
-use lib.ListN.{length, drop}
+use Rattle.units.proofs.Common.{_≡_, ⊎-elim, _≤_, _-_, _+_, arith, length, drop, now, needs}
 use Rattle.gather.proofs.Counts.{feedsIn, feed-on, other-on, none-on}
 use Rattle.gather.proofs.feeds_after.Statement.{statement}
 use Rattle.gather.proofs.feeds_after.Tie as tie
@@ -31,15 +25,5 @@ returns : tie.Need-returns Inv-loop μ-loop
 returns c = omega (arith, none-on (now (c .before .before .args .bytes)) (c .before .loop .i) (omega arith))
 
 pub feeds-after-spec : {M : Type 1} → statement M
-feeds-after-spec =
-    tie.close
-    (tie.spec
-    Inv-loop
-    μ-loop
-    (λ c. (omega arith, omega arith))
-    (λ c. search needs)
-    (λ c. search needs)
-    (λ c. search needs)
-    (λ c. search needs)
-    loop-again
-    returns)
+feeds-after-spec = tie.close (tie.spec Inv-loop μ-loop (λ c. (omega arith, omega arith)) (λ c. search needs) (λ c. search needs)
+    (λ c. search needs) (λ c. search needs) loop-again returns)

@@ -1,10 +1,6 @@
 -- Past the bytes no line is left; before their end it is that of the two searches, one behind the other.
 -- Assumes nothing.
-use mathlib.Core.Path.{ap}
-use native.Mathlib.Omega.{arith}
-use borrow.Author.Needs.{needs}
-use denote.Ref.{now}
-use lib.ListN.{length}
+use Rattle.units.proofs.Common.{ap, arith, length, now, needs}
 use Rattle.gather.proofs.Pieces.{at-end}
 use Rattle.gather.proofs.line_end.Statement.{statement}
 use Rattle.gather.proofs.line_end.Tie as tie

@@ -1,3 +1,4 @@
+-- After so many steps of the loop the first words of `src` stand in `dst`, and all else is as it was; at the end that is all of them.
 use borrow.Author.Needs.{needs}
 use native.Mathlib.Omega.{arith}
 use native.Mathlib.Numerals.{add-one}
@@ -19,27 +20,6 @@ abbrev μ-loop : tie.MeasureT-loop
 loop-holds : tie.Need-loop-holds Inv-loop μ-loop
 loop-holds c = (omega arith, refl, paste-zero (c .args .dst .now) (c .args .to) (c .args .src .now))
 
-add-o : tie.Need-add-o Inv-loop μ-loop
-add-o c = search needs
-
-mul-dst : tie.Need-mul-dst Inv-loop μ-loop
-mul-dst c = search needs
-
-shared-slice-read-dst : tie.Need-shared-slice-read-dst Inv-loop μ-loop
-shared-slice-read-dst c = search needs
-
-mul-dst-2 : tie.Need-mul-dst-2 Inv-loop μ-loop
-mul-dst-2 c = search needs
-
-slice-write-dst : tie.Need-slice-write-dst Inv-loop μ-loop
-slice-write-dst c = search needs
-
-add-j : tie.Need-add-j Inv-loop μ-loop
-add-j c = search needs
-
-loop-less : tie.Need-loop-less Inv-loop μ-loop
-loop-less c = search needs
-
 loop-again : tie.Need-loop-again Inv-loop μ-loop
 loop-again c =
     let a = c .before .before .before .args in
@@ -50,9 +30,6 @@ loop-again c =
       rw (c .before .before .loop .inv .2, add-one, paste-suc (a .dst .now) (a .to) (a .src .now) j 0 h (omega arith)),
     )
 
-same-length : tie.Need-same-length Inv-loop μ-loop
-same-length c = search needs
-
 returns : tie.Need-returns Inv-loop μ-loop
 unfolding putIn
 returns c =
@@ -62,19 +39,5 @@ returns c =
     ∙ simp (take-length (a .src .now), append-assoc)
 
 pub copy-in-spec : {M : Type 1} → statement M
-copy-in-spec =
-    tie.close
-    (tie.spec
-    Inv-loop
-    μ-loop
-    loop-holds
-    add-o
-    mul-dst
-    shared-slice-read-dst
-    mul-dst-2
-    slice-write-dst
-    add-j
-    loop-less
-    loop-again
-    same-length
-    returns)
+copy-in-spec = tie.close (tie.spec Inv-loop μ-loop loop-holds (λ c. search needs) (λ c. search needs) (λ c. search needs)
+    (λ c. search needs) (λ c. search needs) (λ c. search needs) (λ c. search needs) loop-again (λ c. search needs) returns)

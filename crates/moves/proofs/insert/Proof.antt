@@ -1,3 +1,4 @@
+-- Moving up to `end` and copying into the gap is `inserted`: `insert-is` of Moves joins the two calls' promises.
 use borrow.Author.Needs.{needs}
 use native.Mathlib.Omega.{arith}
 use mathlib.Core.Path.{ap, _∙_}
@@ -8,15 +9,6 @@ use Rattle.moves.proofs.Moves.{insert-is}
 use Rattle.moves.proofs.insert.Statement.{statement}
 use Rattle.moves.proofs.insert.Tie as tie
 
-move-up-requires : tie.Need-move-up-requires
-move-up-requires c κs = search needs
-
-copy-in-requires : tie.Need-copy-in-requires
-copy-in-requires c κs = search needs
-
-same-length : tie.Need-same-length
-same-length c = search needs
-
 returns : tie.Need-returns
 returns c =
     let m = c .before .before .before .before .before .before in
@@ -26,10 +18,4 @@ returns c =
     ∙ insert-is (a .words .now) (a .at) (a .end) (a .new .now) (omega arith) (omega arith)
 
 pub insert-spec : {M : Type 1} → statement M
-insert-spec =
-    tie.close
-    (tie.spec
-    move-up-requires
-    copy-in-requires
-    same-length
-    returns)
+insert-spec = tie.close (tie.spec (λ c κs. search needs) (λ c κs. search needs) (λ c. search needs) returns)

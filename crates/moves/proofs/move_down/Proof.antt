@@ -1,3 +1,4 @@
+-- The first word goes first: after so many steps the first words stand moved, and those still to move are untouched.
 use borrow.Author.Needs.{needs}
 use native.Mathlib.Omega.{arith}
 use Prim.Native.Nat.{_-_, _≤_}
@@ -21,27 +22,6 @@ loop-holds c =
     let e : a .from - a .from ≡ 0 = omega arith in
     (omega arith, omega arith, refl, rw e (put-none (a .words .now) (a .from - a .by)))
 
-mul-words : tie.Need-mul-words Inv-loop μ-loop
-mul-words c = search needs
-
-slice-read-words : tie.Need-slice-read-words Inv-loop μ-loop
-slice-read-words c = search needs
-
-sub-words : tie.Need-sub-words Inv-loop μ-loop
-sub-words c = search needs
-
-mul-words-2 : tie.Need-mul-words-2 Inv-loop μ-loop
-mul-words-2 c = search needs
-
-slice-write-words : tie.Need-slice-write-words Inv-loop μ-loop
-slice-write-words c = search needs
-
-add-j : tie.Need-add-j Inv-loop μ-loop
-add-j c = search needs
-
-loop-less : tie.Need-loop-less Inv-loop μ-loop
-loop-less c = search needs
-
 loop-again : tie.Need-loop-again Inv-loop μ-loop
 loop-again c =
     let a = c .before .before .before .args in
@@ -52,9 +32,6 @@ loop-again c =
       moved-down (a .words .now) (l .words) (l .j) (a .from) (a .by) (omega arith) (omega arith) (omega arith) (l .inv .3),
     )
 
-same-length : tie.Need-same-length Inv-loop μ-loop
-same-length c = search needs
-
 returns : tie.Need-returns Inv-loop μ-loop
 returns c =
     let a = c .before .before .args in
@@ -62,19 +39,5 @@ returns c =
     rw e at (c .before .loop .inv .3)
 
 pub move-down-spec : {M : Type 1} → statement M
-move-down-spec =
-    tie.close
-    (tie.spec
-    Inv-loop
-    μ-loop
-    loop-holds
-    mul-words
-    slice-read-words
-    sub-words
-    mul-words-2
-    slice-write-words
-    add-j
-    loop-less
-    loop-again
-    same-length
-    returns)
+move-down-spec = tie.close (tie.spec Inv-loop μ-loop loop-holds (λ c. search needs) (λ c. search needs) (λ c. search needs)
+    (λ c. search needs) (λ c. search needs) (λ c. search needs) (λ c. search needs) loop-again (λ c. search needs) returns)

@@ -1,3 +1,4 @@
+-- Moving down and wiping what is left behind is `removed`: `remove-is` of Moves joins the two calls' promises.
 use borrow.Author.Needs.{needs}
 use native.Mathlib.Omega.{arith}
 use Prim.Native.Nat.{ℕ, _+_, _-_}
@@ -8,21 +9,6 @@ use Rattle.moves.specs.Moved.{putIn}
 use Rattle.moves.proofs.Moves.{remove-is}
 use Rattle.moves.proofs.remove.Statement.{statement}
 use Rattle.moves.proofs.remove.Tie as tie
-
-add-move-down : tie.Need-add-move-down
-add-move-down c = search needs
-
-move-down-requires : tie.Need-move-down-requires
-move-down-requires c κs = search needs
-
-sub-wipe-part : tie.Need-sub-wipe-part
-sub-wipe-part c = search needs
-
-wipe-part-requires : tie.Need-wipe-part-requires
-wipe-part-requires c κs = search needs
-
-same-length : tie.Need-same-length
-same-length c = search needs
 
 returns : tie.Need-returns
 returns c =
@@ -35,12 +21,5 @@ returns c =
     ∙ rw (k, b) (remove-is (a .words .now) (a .at) (a .end) (a .count) (omega arith) (omega arith))
 
 pub remove-spec : {M : Type 1} → statement M
-remove-spec =
-    tie.close
-    (tie.spec
-    add-move-down
-    move-down-requires
-    sub-wipe-part
-    wipe-part-requires
-    same-length
-    returns)
+remove-spec = tie.close (tie.spec (λ c. search needs) (λ c κs. search needs) (λ c. search needs) (λ c κs. search needs)
+    (λ c. search needs) returns)

@@ -1,3 +1,4 @@
+-- After so many steps the first words of the part are 0, and all else is as it was.
 use borrow.Author.Needs.{needs}
 use native.Mathlib.Omega.{arith}
 use Prim.Native.Nat.{_-_, _≤_}
@@ -21,18 +22,6 @@ loop-holds c =
     let e : a .from - a .from ≡ 0 = omega arith in
     (omega arith, omega arith, refl, rw e (put-none (a .words .now) (a .from)))
 
-mul-words : tie.Need-mul-words Inv-loop μ-loop
-mul-words c = search needs
-
-slice-write-words : tie.Need-slice-write-words Inv-loop μ-loop
-slice-write-words c = search needs
-
-add-j : tie.Need-add-j Inv-loop μ-loop
-add-j c = search needs
-
-loop-less : tie.Need-loop-less Inv-loop μ-loop
-loop-less c = search needs
-
 loop-again : tie.Need-loop-again Inv-loop μ-loop
 loop-again c =
     let a = c .before .before .args in
@@ -43,9 +32,6 @@ loop-again c =
       wiped (a .words .now) (l .words) (l .j) (a .from) (omega arith) (omega arith) (l .inv .3),
     )
 
-same-length : tie.Need-same-length Inv-loop μ-loop
-same-length c = search needs
-
 returns : tie.Need-returns Inv-loop μ-loop
 returns c =
     let a = c .before .before .args in
@@ -53,16 +39,5 @@ returns c =
     rw e at (c .before .loop .inv .3)
 
 pub wipe-part-spec : {M : Type 1} → statement M
-wipe-part-spec =
-    tie.close
-    (tie.spec
-    Inv-loop
-    μ-loop
-    loop-holds
-    mul-words
-    slice-write-words
-    add-j
-    loop-less
-    loop-again
-    same-length
-    returns)
+wipe-part-spec = tie.close (tie.spec Inv-loop μ-loop loop-holds (λ c. search needs) (λ c. search needs) (λ c. search needs)
+    (λ c. search needs) loop-again (λ c. search needs) returns)

@@ -1,11 +1,5 @@
 -- The room is what the file has behind its first n bytes, and no more is copied than that.
-use mathlib.Core.Path.{sym}
-use native.Mathlib.Omega.{arith}
-use denote.Ref.{now}
-use Prim.Native.Nat.{_-_}
-use lib.ListN.{length}
-use lib.Seq.{length-take-le}
-use borrow.Author.Needs.{needs}
+use Rattle.units.proofs.Common.{sym, _-_, arith, length, length-take-le, now, needs}
 use Rattle.night.proofs.add.Statement.{statement}
 use Rattle.night.proofs.add.Tie as tie
 
@@ -23,7 +17,5 @@ copy-bytes-requires-2 c κs =
     )
 
 pub add-spec : {M : Type 1} → statement M
-add-spec =
-    tie.close
-    (tie.spec (λ c. search needs) (λ c κs. search needs) (λ c. search needs) (λ c. search needs) (λ c. search needs)
+add-spec = tie.close (tie.spec (λ c. search needs) (λ c κs. search needs) (λ c. search needs) (λ c. search needs) (λ c. search needs)
     slice-aggregate-copy-bytes copy-bytes-requires-2 (λ c. search needs) (λ c. search needs) (λ c. search needs))

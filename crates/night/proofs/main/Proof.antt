@@ -1,6 +1,5 @@
 -- The loop goes over the arguments, whose count is at most that of the words; the measure is how many are left.
-use Prim.Native.Nat.{_-_, _≤_}
-use borrow.Author.Needs.{needs}
+use Rattle.units.proofs.Common.{_≤_, _-_, needs}
 use Rattle.night.proofs.main.Statement.{statement}
 use Rattle.night.proofs.main.Tie as tie
 
@@ -11,7 +10,6 @@ abbrev μ-loop : tie.MeasureT-loop
 μ-loop words i₀ i = words - i
 
 pub main-spec : {M : Type 1} → statement M
-main-spec =
-    tie.close
-    (tie.spec Inv-loop μ-loop (λ c κs. search needs) (λ c. search needs) (λ c κs. search needs) (λ c. search needs) (λ c. search needs)
-    (λ c κs. search needs) (λ c. search needs) (λ c. search needs) (λ c. search needs) (λ c. search needs) (λ c. search needs))
+main-spec = tie.close (tie.spec Inv-loop μ-loop (λ c κs. search needs) (λ c. search needs) (λ c κs. search needs) (λ c. search needs)
+    (λ c. search needs) (λ c κs. search needs) (λ c. search needs) (λ c. search needs) (λ c. search needs) (λ c. search needs)
+    (λ c. search needs))

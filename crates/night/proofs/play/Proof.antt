@@ -1,8 +1,5 @@
 -- `read_file` fills no more of the array than it has, so the part that is played is inside it.
-use mathlib.Core.Path.{sym}
-use native.Mathlib.Omega.{arith}
-use lib.Seq.{length-take-le}
-use borrow.Author.Needs.{needs}
+use Rattle.units.proofs.Common.{sym, arith, length-take-le, needs}
 use Rattle.night.proofs.play.Statement.{statement}
 use Rattle.night.proofs.play.Tie as tie
 
@@ -12,7 +9,5 @@ slice-aggregate-write-listing c =
     sym (length-take-le (f .result .n) (f .last .1 .0) (omega (arith, f .ensures)))
 
 pub play-spec : {M : Type 1} → statement M
-play-spec =
-    tie.close
-    (tie.spec (λ c. search needs) (λ c κs. search needs) (λ c κs. search needs) (λ c. search needs) (λ c. search needs)
-    slice-aggregate-write-listing (λ c κs. search needs) (λ c. search needs))
+play-spec = tie.close (tie.spec (λ c. search needs) (λ c κs. search needs) (λ c κs. search needs) (λ c. search needs)
+    (λ c. search needs) slice-aggregate-write-listing (λ c κs. search needs) (λ c. search needs))

@@ -1,10 +1,5 @@
 -- The loop keeps the place inside the file, and each turn that adds bytes moves it on.
-use mathlib.Core.Path.{_≡_, sym}
-use native.Mathlib.Omega.{arith}
-use Prim.Native.Nat.{_-_, _≤_}
-use lib.ListN.{length}
-use lib.Seq.{length-take-le}
-use borrow.Author.Needs.{needs}
+use Rattle.units.proofs.Common.{sym, _≡_, _≤_, _-_, arith, length, length-take-le, needs}
 use Rattle.night.proofs.read_file.Statement.{statement}
 use Rattle.night.proofs.read_file.Tie as tie
 
@@ -30,7 +25,6 @@ loop-again : tie.Need-loop-again Inv-loop μ-loop
 loop-again c = (search needs, search needs, c .before .before .add .ensures .1)
 
 pub read-file-spec : {M : Type 1} → statement M
-read-file-spec =
-    tie.close
-    (tie.spec Inv-loop μ-loop (λ c κs. search needs) (λ c. search needs) (λ c. search needs) (λ c κs. search needs) (λ c. search needs)
-    (λ c. search needs) (λ c. search needs) slice-aggregate-add add-requires loop-less loop-again (λ c. search needs) (λ c. search needs))
+read-file-spec = tie.close (tie.spec Inv-loop μ-loop (λ c κs. search needs) (λ c. search needs) (λ c. search needs)
+    (λ c κs. search needs) (λ c. search needs) (λ c. search needs) (λ c. search needs) slice-aggregate-add add-requires loop-less
+    loop-again (λ c. search needs) (λ c. search needs))

@@ -1,7 +1,5 @@
 -- What `list` wrote stands inside the output: no more is written to standard output.
-use mathlib.Core.Path.{sym}
-use lib.Seq.{length-take-le}
-use borrow.Author.Needs.{needs}
+use Rattle.units.proofs.Common.{sym, length-take-le, needs}
 use Rattle.nightrun.proofs.Whole.{listed-inside}
 use Rattle.night.proofs.write_into.Statement.{statement}
 use Rattle.night.proofs.write_into.Tie as tie
@@ -15,7 +13,5 @@ listing-count c =
     sym (length-take-le _ _ (listed-inside (n .n .given .1) (n .before .before .before .before .list .ensures)))
 
 pub write-into-spec : {M : Type 1} → statement M
-write-into-spec =
-    tie.close
-    (tie.spec (λ c κs. search needs) (λ c. search needs) (λ c. search needs) (λ c. search needs) (λ c. search needs) listing-part
-    listing-count (λ c κs. search needs) (λ c. search needs) (λ c. search needs))
+write-into-spec = tie.close (tie.spec (λ c κs. search needs) (λ c. search needs) (λ c. search needs) (λ c. search needs)
+    (λ c. search needs) listing-part listing-count (λ c κs. search needs) (λ c. search needs) (λ c. search needs))

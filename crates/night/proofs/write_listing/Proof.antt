@@ -1,8 +1,5 @@
 -- The array has as many bytes as it was made with, by the law of `replicate` and not by counting them.
-use Prim.Native.Nat.{ℕ}
-use mathlib.Core.Path.{sym}
-use lib.ListN.{length-replicate}
-use borrow.Author.Needs.{needs}
+use Rattle.units.proofs.Common.{sym, ℕ, length-replicate, needs}
 use Rattle.night.proofs.write_listing.Statement.{statement}
 use Rattle.night.proofs.write_listing.Tie as tie
 

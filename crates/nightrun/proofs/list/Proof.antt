@@ -1,11 +1,6 @@
 -- A listing is the line `broken`, or the line of the command count and what `play` writes; an output that could be too short stays as it
 -- is.
-use Prim.Native.Nat.{ℕ}
-use native.Mathlib.Omega.{arith}
-use lib.ListN.{replicate, length-replicate}
-use denote.Ref.{now}
-use borrow.Author.Needs.{needs}
-use borrow.Author.Tests.{not-true, not-false}
+use Rattle.units.proofs.Common.{ℕ, arith, replicate, length-replicate, now, not-false, not-true, needs}
 use Rattle.text.proofs.Writing.{put-as}
 use Rattle.listingout.proofs.Rooms.{length-broken}
 use Rattle.blank.proofs.Blank.{blank-fit, blank-means}
@@ -63,8 +58,6 @@ returns-3 c =
     .ensures)
 
 pub list-spec : {M : Type 1} → statement M
-list-spec =
-    tie.close
-    (tie.spec returns (λ c. search needs) (λ c κs. search needs) (λ c. search needs) (λ c. search needs) open-requires
+list-spec = tie.close (tie.spec returns (λ c. search needs) (λ c κs. search needs) (λ c. search needs) (λ c. search needs) open-requires
     (λ c κs. search needs) (λ c. search needs) returns-2 (λ c κs. search needs) (λ c. search needs) (λ c. search needs) play-requires
     (λ c. search needs) returns-3)

@@ -1,10 +1,8 @@
-use mathlib.Core.Path.{sym, ap, _∙_, subst}
-use denote.Ref.{now}
-use lib.ListN.{length}
+-- By the change's kind: the region is kept, filled, or written over with the bytes that the words say.
+use Rattle.units.proofs.Common.{sym, _∙_, ap, subst, length, now, needs}
 use Rattle.answers.proofs.Cuts.{unpacked}
 use Rattle.orders.specs.Decided.{altered, Suits}
 use Rattle.orders.specs.declared.Change.{Change}
-use borrow.Author.Needs.{needs}
 use Rattle.orders.proofs.alter.Statement.{statement}
 use Rattle.orders.proofs.alter.Tie as tie
 
@@ -55,20 +53,6 @@ returns-3 c =
     ∙ sym (ap (λ (e : Change). altered e (now (a .words)) (now (a .region))) k)
 
 pub alter-spec : {M : Type 1} → statement M
-alter-spec =
-    tie.close
-    (tie.spec
-    (λ c. search needs)
-    (λ c. search needs)
-    fill-bytes-requires
-    (λ c. search needs)
-    add-end
-    (λ c. search needs)
-    (λ c. search needs)
-    part-unpack-end
-    (λ c κs. search needs)
-    returns
-    (λ c. search needs)
-    returns-2
-    (λ c. search needs)
-    returns-3)
+alter-spec = tie.close (tie.spec (λ c. search needs) (λ c. search needs) fill-bytes-requires (λ c. search needs) add-end
+    (λ c. search needs) (λ c. search needs) part-unpack-end (λ c κs. search needs) returns (λ c. search needs) returns-2
+    (λ c. search needs) returns-3)

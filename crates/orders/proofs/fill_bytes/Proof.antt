@@ -1,10 +1,8 @@
-use borrow.Author.Needs.{needs}
-use native.Mathlib.Omega.{arith}
-use native.Mathlib.Numerals.{add-one}
-use Prim.Native.Nat.{_+_, _-_, _≤_, _<_}
-use mathlib.Core.Path.{_≡_, refl, sym, ap, _∙_}
-use lib.Seq.{paste, paste-zero, paste-suc}
-use lib.ListN.{length, getD, set, replicate, length-set, length-replicate, getD-replicate}
+-- The loop's invariant: the first j bytes of the part are the byte. The measure is how many are to come.
+use Rattle.units.proofs.Common.{sym, _∙_, _≡_, refl, ap, _≤_, _-_, _+_, _<_, add-one, arith, length, getD, set, replicate, length-set}
+use Rattle.units.proofs.Common.{length-replicate, paste, paste-suc, needs}
+use lib.Seq.{paste-zero}
+use lib.ListN.{getD-replicate}
 use Rattle.orders.proofs.fill_bytes.Statement.{statement}
 use Rattle.orders.proofs.fill_bytes.Tie as tie
 
@@ -38,16 +36,5 @@ returns c =
     c .before .loop .inv .2 ∙ ap (paste (a .dst .now) (a .from) (replicate (a .size) (a .byte))) e
 
 pub fill-bytes-spec : {M : Type 1} → statement M
-fill-bytes-spec =
-    tie.close
-    (tie.spec
-    Inv-loop
-    μ-loop
-    loop-holds
-    (λ c. search needs)
-    (λ c. search needs)
-    (λ c. search needs)
-    (λ c. search needs)
-    loop-again
-    (λ c. search needs)
-    returns)
+fill-bytes-spec = tie.close (tie.spec Inv-loop μ-loop loop-holds (λ c. search needs) (λ c. search needs) (λ c. search needs)
+    (λ c. search needs) loop-again (λ c. search needs) returns)

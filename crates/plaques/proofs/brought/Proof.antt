@@ -1,13 +1,7 @@
 -- `brought` hands back the reader with the plaque, whose bytes stand at the front of the reader's region (laws of `Placing`).
 -- Assumes nothing.
-use Prim.Native.Nat.{ℕ}
-use mathlib.Core.Path.{ap, _∙_}
-use mathlib.Core.Bool.{true}
-use mathlib.Core.List.{List}
-use native.Mathlib.Omega.{arith}
-use lib.ListN.{length}
-use borrow.Author.Needs.{needs}
-use Rattle.meaning.specs.Bench.{full}
+use Rattle.units.proofs.Common.{_∙_, ap, true, List, ℕ, arith, length, needs}
+use Rattle.meaning.proofs.Terms.{full}
 use Rattle.promise.proofs.Tables.{reader-range}
 use Rattle.promise.proofs.Readers.{withPlaque}
 use Rattle.plaques.proofs.Placing.{Limits, limits, arrives-done}
@@ -46,16 +40,5 @@ returns c store =
     _ (c .before .before .copy-bytes .ensures)
 
 pub brought-spec : {M : Type 1} → statement M
-brought-spec =
-    tie.close
-    (tie.spec
-    sub-i
-    (λ c. search needs)
-    eight-requires
-    cast-t13
-    (λ c κs. search needs)
-    (λ c. search needs)
-    (λ c. search needs)
-    copy-bytes-requires
-    (λ c. search needs)
-    returns)
+brought-spec = tie.close (tie.spec sub-i (λ c. search needs) eight-requires cast-t13 (λ c κs. search needs) (λ c. search needs)
+    (λ c. search needs) copy-bytes-requires (λ c. search needs) returns)

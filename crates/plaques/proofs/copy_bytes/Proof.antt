@@ -1,11 +1,6 @@
-use borrow.Author.Needs.{needs}
-use native.Mathlib.Omega.{arith}
-use native.Mathlib.Numerals.{add-one}
-use Prim.Native.Nat.{ℕ, _+_, _-_, _≤_, _<_}
-use mathlib.Core.Path.{_≡_, refl, ap, _∙_}
-use lib.ListN.{length}
-use lib.Seq.{paste, paste-zero, paste-suc}
-use lib.ListN.{length-set}
+-- The loop's invariant: the first j bytes are pasted. The measure is how many are to come.
+use Rattle.units.proofs.Common.{_∙_, _≡_, refl, ap, ℕ, _≤_, _-_, _+_, _<_, add-one, arith, length, length-set, paste, paste-suc, needs}
+use lib.Seq.{paste-zero}
 use Rattle.plaques.proofs.copy_bytes.Statement.{statement}
 use Rattle.plaques.proofs.copy_bytes.Tie as tie
 
@@ -18,21 +13,6 @@ abbrev μ-loop : tie.MeasureT-loop
 loop-holds : tie.Need-loop-holds Inv-loop μ-loop
 loop-holds c = (omega arith, refl, paste-zero (c .args .dst .now) (c .args .to) (c .args .src .now))
 
-add-o : tie.Need-add-o Inv-loop μ-loop
-add-o c = search needs
-
-shared-slice-read-dst : tie.Need-shared-slice-read-dst Inv-loop μ-loop
-shared-slice-read-dst c = search needs
-
-slice-write-dst : tie.Need-slice-write-dst Inv-loop μ-loop
-slice-write-dst c = search needs
-
-add-j : tie.Need-add-j Inv-loop μ-loop
-add-j c = search needs
-
-loop-less : tie.Need-loop-less Inv-loop μ-loop
-loop-less c = search needs
-
 loop-again : tie.Need-loop-again Inv-loop μ-loop
 loop-again c =
     let a = c .before .before .before .args in
@@ -43,9 +23,6 @@ loop-again c =
       rw (c .before .before .loop .inv .2, add-one, paste-suc (a .dst .now) (a .to) (a .src .now) j 0 h (omega arith)),
     )
 
-same-length : tie.Need-same-length Inv-loop μ-loop
-same-length c = search needs
-
 returns : tie.Need-returns Inv-loop μ-loop
 returns c =
     let a = c .before .before .args in
@@ -53,17 +30,5 @@ returns c =
     c .before .loop .inv .2 ∙ ap (λ (n : ℕ). paste (a .dst .now) (a .to) (a .src .now) n) e
 
 pub copy-bytes-spec : {M : Type 1} → statement M
-copy-bytes-spec =
-    tie.close
-    (tie.spec
-    Inv-loop
-    μ-loop
-    loop-holds
-    add-o
-    shared-slice-read-dst
-    slice-write-dst
-    add-j
-    loop-less
-    loop-again
-    same-length
-    returns)
+copy-bytes-spec = tie.close (tie.spec Inv-loop μ-loop loop-holds (λ c. search needs) (λ c. search needs) (λ c. search needs)
+    (λ c. search needs) (λ c. search needs) loop-again (λ c. search needs) returns)

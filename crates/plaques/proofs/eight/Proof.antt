@@ -1,12 +1,6 @@
-use borrow.Author.Needs.{needs}
-use native.Mathlib.Omega.{arith}
-use native.Mathlib.Numerals.{add-one}
-use Prim.Native.Nat.{ℕ, _-_, _≤_}
-use mathlib.Core.Path.{_≡_, sym, _∙_}
-use mathlib.Core.List.{List}
-use lib.ListN.{length, take, getD}
-use lib.Seq.{take-suc-set, take-suc, take-all}
-use lib.ListN.{length-set}
+-- The loop's invariant: the first j bytes are those of the ID. The measure is how many of the eight are to come.
+use Rattle.units.proofs.Common.{sym, _∙_, _≡_, List, ℕ, _≤_, _-_, add-one, arith, length, getD, take, length-set, take-all, take-suc}
+use Rattle.units.proofs.Common.{take-suc-set, needs}
 use Rattle.plaques.proofs.eight.Statement.{statement}
 use Rattle.plaques.proofs.eight.Tie as tie
 
@@ -15,24 +9,6 @@ Inv-loop id a₀ j₀ a j = (j ≤ 8) × (length a ≡ 8) × (take j a ≡ take 
 
 abbrev μ-loop : tie.MeasureT-loop
 μ-loop id a₀ j₀ a j = 8 - j
-
-loop-holds : tie.Need-loop-holds Inv-loop μ-loop
-loop-holds c = search needs
-
-cast-if1 : tie.Need-cast-if1 Inv-loop μ-loop
-cast-if1 c = search needs
-
-shared-slice-read-a : tie.Need-shared-slice-read-a Inv-loop μ-loop
-shared-slice-read-a c = search needs
-
-array-write-a : tie.Need-array-write-a Inv-loop μ-loop
-array-write-a c = search needs
-
-add-j : tie.Need-add-j Inv-loop μ-loop
-add-j c = search needs
-
-loop-less : tie.Need-loop-less Inv-loop μ-loop
-loop-less c = search needs
 
 loop-again : tie.Need-loop-again Inv-loop μ-loop
 loop-again c =
@@ -53,16 +29,5 @@ returns c =
     sym (take-all j a (omega arith)) ∙ c .before .before .loop .inv .2 ∙ take-all j l (omega arith)
 
 pub eight-spec : {M : Type 1} → statement M
-eight-spec =
-    tie.close
-    (tie.spec
-    Inv-loop
-    μ-loop
-    loop-holds
-    cast-if1
-    shared-slice-read-a
-    array-write-a
-    add-j
-    loop-less
-    loop-again
-    returns)
+eight-spec = tie.close (tie.spec Inv-loop μ-loop (λ c. search needs) (λ c. search needs) (λ c. search needs) (λ c. search needs)
+    (λ c. search needs) (λ c. search needs) loop-again returns)

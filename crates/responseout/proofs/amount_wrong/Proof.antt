@@ -1,13 +1,8 @@
-use mathlib.Core.Path.{sym, _∙_}
-use Rattle.units.proofs.Choice.{yes-and, no-and, yes-or, no-or}
-use borrow.Author.Tests.{lt-ltb, le-ltb}
-use Rattle.meaning.specs.Response.{amountWrong}
-use borrow.Author.Needs.{needs}
+-- More than 255 bytes, or an error that has not exactly one.
+use Rattle.units.proofs.Common.{sym, _∙_, le-ltb, lt-ltb, needs, yes-and, no-and, yes-or, no-or}
+use Rattle.meaning.proofs.Terms.{amountWrong}
 use Rattle.responseout.proofs.amount_wrong.Statement.{statement}
 use Rattle.responseout.proofs.amount_wrong.Tie as tie
-
-cast-if1 : tie.Need-cast-if1
-cast-if1 c = search needs
 
 returns : tie.Need-returns
 unfolding amountWrong
@@ -22,4 +17,4 @@ unfolding amountWrong
 returns-3 c = sym (no-or (le-ltb _ _ (c .before .if1 .left)) ∙ no-and _ (c .if2 .left))
 
 pub amount-wrong-spec : {M : Type 1} → statement M
-amount-wrong-spec = tie.close (tie.spec cast-if1 returns returns-2 returns-3)
+amount-wrong-spec = tie.close (tie.spec (λ c. search needs) returns returns-2 returns-3)

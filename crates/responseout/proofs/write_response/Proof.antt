@@ -1,18 +1,11 @@
-use mathlib.Core.Path.{sym, ap, _∙_}
-use Rattle.units.proofs.Choice.{yes-cond, no-cond}
-use borrow.Author.Tests.{eq-eqb, ne-eqb}
+-- Refused, the output stays as it was; else it has the packet in front, whose length the refusal has made sure of.
+use Rattle.units.proofs.Common.{sym, _∙_, ap, ℕ, arith, eq-eqb, ne-eqb, needs, yes-cond, no-cond}
 use Rattle.meaning.proofs.ResponseLaws.{writable}
-use native.Mathlib.Omega.{arith}
-use Prim.Native.Nat.{ℕ}
-use Rattle.meaning.specs.Packet.{writtenCount, writtenOutput}
+use Rattle.meaning.proofs.Terms.{writtenCount, writtenOutput, responseOutput}
 use Rattle.meaning.specs.declared.packet.Written.the-variants.{Done}
-use Rattle.meaning.specs.Response.{writeResponse, responseOutput}
-use borrow.Author.Needs.{needs}
+use Rattle.meaning.specs.Response.{writeResponse}
 use Rattle.responseout.proofs.write_response.Statement.{statement}
 use Rattle.responseout.proofs.write_response.Tie as tie
-
-respond-refusal-requires : tie.Need-respond-refusal-requires
-respond-refusal-requires c κs = search needs
 
 returns : tie.Need-returns
 unfolding writeResponse responseOutput writtenCount writtenOutput
@@ -22,7 +15,8 @@ returns c = (
 )
 
 put-words-requires : tie.Need-put-words-requires
-put-words-requires c κs = let ok = writable _ _ _ _ _ (sym (c .before .before .respond-refusal .ensures) ∙ c .before .if1 .left) in (ok .short, ok .fits)
+put-words-requires c κs = let ok = writable _ _ _ _ _ (sym (c .before .before .respond-refusal .ensures) ∙ c .before .if1 .left) in
+    (ok .short, ok .fits)
 
 cast-t13 : tie.Need-cast-t13
 cast-t13 c =
@@ -31,28 +25,15 @@ cast-t13 c =
     let h = ok .short in
     omega arith
 
-shown-count-requires : tie.Need-shown-count-requires
-shown-count-requires c κs = search needs
-
-same-length : tie.Need-same-length
-same-length c = search needs
-
 returns-2 : tie.Need-returns-2
 unfolding writeResponse responseOutput writtenCount writtenOutput
 returns-2 c =
-    let z = eq-eqb _ _ (c .before .before .before .before .before .if1 .left) in (
-      rw (← (c .before .before .before .before .before .before .respond-refusal .ensures)) (ap (λ (n : ℕ). Done (record { 0 = n })) (c .shown-count .ensures) ∙ sym (yes-cond _ z)),
-      rw (← (c .before .before .before .before .before .before .respond-refusal .ensures)) (c .before .before .before .put-words .ensures ∙ sym (yes-cond _ z)),
+    let p = c .before .before .before .before .before in
+    let z = eq-eqb _ _ (p .if1 .left) in (
+      rw (← (p .before .respond-refusal .ensures)) (ap (λ (n : ℕ). Done (record { 0 = n })) (c .shown-count .ensures) ∙ sym (yes-cond _ z)),
+      rw (← (p .before .respond-refusal .ensures)) (c .before .before .before .put-words .ensures ∙ sym (yes-cond _ z)),
     )
 
 pub write-response-spec : {M : Type 1} → statement M
-write-response-spec =
-    tie.close
-    (tie.spec
-    respond-refusal-requires
-    returns
-    put-words-requires
-    cast-t13
-    shown-count-requires
-    same-length
-    returns-2)
+write-response-spec = tie.close (tie.spec (λ c κs. search needs) returns put-words-requires cast-t13 (λ c κs. search needs)
+    (λ c. search needs) returns-2)

@@ -1,14 +1,9 @@
-use Rattle.meaning.specs.Table.{carries, carried}
-use borrow.Author.Needs.{needs}
+-- The row's load, by what `carries` says of it.
+use Rattle.meaning.proofs.Terms.{carries, carried}
+use Rattle.units.proofs.Common.{needs}
 use Rattle.rows.proofs.carried.Statement.{statement}
 use Rattle.rows.proofs.carried.Tie as tie
 
-carries-requires : tie.Need-carries-requires
-carries-requires c κs = search needs
-
-returns : tie.Need-returns
-unfolding carried
-returns c = c .carries .ensures
-
 pub carried-spec : {M : Type 1} → statement M
-carried-spec = tie.close (tie.spec carries-requires returns)
+unfolding carried
+carried-spec = tie.close (tie.spec (λ c κs. search needs) (λ c. c .carries .ensures))

@@ -1,28 +1,10 @@
-use Rattle.meaning.specs.Table.{carries}
-use borrow.Author.Needs.{needs}
+-- By the load's kind: nothing, one byte, or as many as the size says.
+use Rattle.meaning.proofs.Terms.{carries}
+use Rattle.units.proofs.Common.{needs}
 use Rattle.rows.proofs.carries.Statement.{statement}
 use Rattle.rows.proofs.carries.Tie as tie
 
-enum-told : tie.Need-enum-told
-enum-told c = search needs
-
-enum-told-2 : tie.Need-enum-told-2
-enum-told-2 c = search needs
-
-enum-told-3 : tie.Need-enum-told-3
-enum-told-3 c = search needs
-
-returns : tie.Need-returns
-unfolding carries
-returns c = rw (c .enum-told .given .1)
-
-returns-2 : tie.Need-returns-2
-unfolding carries
-returns-2 c = rw (c .enum-told2 .given .1)
-
-returns-3 : tie.Need-returns-3
-unfolding carries
-returns-3 c = rw (c .enum-told3 .given .1)
-
 pub carries-spec : {M : Type 1} → statement M
-carries-spec = tie.close (tie.spec enum-told enum-told-2 enum-told-3 returns returns-2 returns-3)
+unfolding carries
+carries-spec = tie.close (tie.spec (λ c. search needs) (λ c. search needs) (λ c. search needs) (λ c. rw (c .enum-told .given .1))
+    (λ c. rw (c .enum-told2 .given .1)) (λ c. rw (c .enum-told3 .given .1)))

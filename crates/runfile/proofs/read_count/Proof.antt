@@ -24,4 +24,5 @@ read-count-spec 𝓤 H 𝓜 𝓖 𝓡 =
     (tables 𝓤 H 𝓜 𝓡 code.env .C) (tables 𝓤 H 𝓜 𝓡 code.env .Λ) #here code.function (code.unfolded 𝓤 H 𝓜 𝓡)
     (plain-meets E.the-type E′.the-laws tt countOf callee.name 𝓤 H (𝓖 .A) (givenOf 𝓤 H 𝓜 𝓖) (tablesOf 𝓤 H 𝓜 (tables 𝓤 H 𝓜 𝓡 code.env))
     (cited 𝓤 H (Made 𝓤 H (𝓖 .A)) 𝓜 𝓡 code.env new.name new.routine code.calls-runfile·new (known-new.met 𝓤 H 𝓜 𝓖 𝓡))
-    (cited 𝓤 H (OfFile E.the-type countOf 𝓤 H (𝓖 .A)) 𝓜 𝓡 code.env callee.name callee.routine code.calls-runfile·RunFile·count (known.met 𝓤 H 𝓜 𝓖 𝓡)))
+    (cited 𝓤 H (OfFile E.the-type countOf 𝓤 H (𝓖 .A)) 𝓜 𝓡 code.env callee.name callee.routine code.calls-runfile·RunFile·count
+    (known.met 𝓤 H 𝓜 𝓖 𝓡)))

@@ -1,12 +1,7 @@
-use borrow.Author.Needs.{needs}
-use native.Mathlib.Omega.{arith}
-use mathlib.Core.Path.{_≡_, refl, sym, _∙_}
-use mathlib.Core.Bool.{true, true≢false, false≢true}
-use lib.ListN.{length}
-use denote.Ref.{now}
-use borrow.Author.Tests.{not-true, not-false}
-use Rattle.meaning.specs.Bench.{full}
-use Rattle.state.specs.Consistent.{counts}
+-- Room is judged over the swept words, as `room` reads off the calls before; what joins is `inserted` by the promise of `join`.
+use Rattle.units.proofs.Common.{sym, _∙_, _≡_, refl, true, false≢true, true≢false, arith, length, now, not-false, not-true, needs}
+use Rattle.meaning.proofs.Terms.{full}
+use Rattle.state.proofs.Terms.{counts}
 use Rattle.state.proofs.Lists.{length-mapped}
 use Rattle.lists.specs.Room.{roomFor}
 use Rattle.store.specs.Swept.{sweptWords}
@@ -79,20 +74,7 @@ returns-2 c =
     }
 
 pub enlist-spec : {M : Type 1} → statement M
-enlist-spec =
-    tie.close
-    (tie.spec
-    (λ c κs. search needs)
+enlist-spec = tie.close (tie.spec (λ c κs. search needs)
     (λ c. record { fits = omega (arith, c .before .before .before .pre .short) })
-    has-room-requires
-    returns
-    sweep-store-requires
-    join-requires
-    (λ c. search needs)
-    (λ c. search needs)
-    add-t22
-    (λ c. search needs)
-    (λ c. search needs)
-    (λ c κs. search needs)
-    (λ c. search needs)
-    returns-2)
+    has-room-requires returns sweep-store-requires join-requires (λ c. search needs) (λ c. search needs) add-t22 (λ c. search needs)
+    (λ c. search needs) (λ c κs. search needs) (λ c. search needs) returns-2)

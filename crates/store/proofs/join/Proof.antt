@@ -1,8 +1,5 @@
-use borrow.Author.Needs.{needs}
-use native.Mathlib.Omega.{arith}
-use mathlib.Core.Path.{_≡_}
-use Prim.Native.Nat.{_+_}
-use lib.ListN.{length}
+-- Both places lie in the store, so `insert` may be called, and its promise is the one asked for.
+use Rattle.units.proofs.Common.{_≡_, _+_, arith, length, needs}
 use Rattle.state.proofs.Lists.{length-mapped}
 use Rattle.store.proofs.Enlisting.{place-ordered}
 use Rattle.store.proofs.join.Statement.{statement}
@@ -24,12 +21,5 @@ returns c =
     rw (p .place-of2 .ensures, p .before .place-of .ensures) at (c .before .before .insert .ensures)
 
 pub join-spec : {M : Type 1} → statement M
-join-spec =
-    tie.close
-    (tie.spec
-    (λ c. search needs)
-    (λ c κs. search needs)
-    (λ c κs. search needs)
-    insert-requires
-    (λ c. search needs)
+join-spec = tie.close (tie.spec (λ c. search needs) (λ c κs. search needs) (λ c κs. search needs) insert-requires (λ c. search needs)
     returns)

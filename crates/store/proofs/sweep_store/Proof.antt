@@ -1,7 +1,6 @@
-use borrow.Author.Needs.{needs}
-use mathlib.Core.Path.{_≡_, _∙_}
-use lib.ListN.{length}
-use Rattle.state.specs.Consistent.{counts}
+-- The held words lie at the front: removing them all leaves zeros, and without a sweep nothing is touched.
+use Rattle.units.proofs.Common.{_∙_, _≡_, length, needs}
+use Rattle.state.proofs.Terms.{counts}
 use Rattle.state.proofs.Lists.{length-mapped}
 use Rattle.lists.specs.Room.{placeOf}
 use Rattle.moves.specs.Moved.{removed}
@@ -32,12 +31,5 @@ returns-2 c =
     ∙ sweeping (λ (z : Broom). removed w 0 k k ≡ sweptStore z (a .held) w) (a .broom) (m .match .keys2) (rw n) (rw n)
 
 pub sweep-store-spec : {M : Type 1} → statement M
-sweep-store-spec =
-    tie.close
-    (tie.spec
-    (λ c. search needs)
-    (λ c κs. search needs)
-    (λ c κs. search needs)
-    returns
-    (λ c. search needs)
+sweep-store-spec = tie.close (tie.spec (λ c. search needs) (λ c κs. search needs) (λ c κs. search needs) returns (λ c. search needs)
     returns-2)

@@ -1,10 +1,6 @@
-use borrow.Author.Needs.{needs}
-use native.Mathlib.Omega.{arith}
-use Prim.Native.Nat.{_-_, _≤_}
-use mathlib.Core.Path.{_≡_, refl}
-use mathlib.Core.List.{[], _++_, map, append-nil}
-use lib.ListN.{length, take, drop, drop-of-length-le}
-use lib.Seq.{take-all}
+-- After so many steps the first nodes are swept and the others as they were; at the end that is `map`.
+use Rattle.units.proofs.Common.{_≡_, refl, [], _++_, map, append-nil, _≤_, _-_, arith, length, drop, take, drop-of-length-le, take-all}
+use Rattle.units.proofs.Common.{needs}
 use Rattle.state.proofs.Lists.{length-mapped}
 use Rattle.store.specs.Swept.{sweptNode}
 use Rattle.store.proofs.Loops.{map-more}
@@ -37,18 +33,5 @@ returns c =
     rw (e, d, append-nil) at (c .before .loop .inv .1)
 
 pub swept-spec : {M : Type 1} → statement M
-swept-spec =
-    tie.close
-    (tie.spec
-    Inv-loop
-    μ-loop
-    (λ c. (omega arith, refl))
-    (λ c. search needs)
-    (λ c. search needs)
-    (λ c κs. search needs)
-    (λ c. search needs)
-    (λ c. search needs)
-    (λ c. search needs)
-    (λ c. search needs)
-    loop-again
-    returns)
+swept-spec = tie.close (tie.spec Inv-loop μ-loop (λ c. (omega arith, refl)) (λ c. search needs) (λ c. search needs)
+    (λ c κs. search needs) (λ c. search needs) (λ c. search needs) (λ c. search needs) (λ c. search needs) loop-again returns)

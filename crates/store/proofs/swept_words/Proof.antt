@@ -1,7 +1,6 @@
-use borrow.Author.Needs.{needs}
-use mathlib.Core.Path.{_≡_}
-use lib.ListN.{length, replicate}
-use Rattle.state.specs.State.{nothing}
+-- A sweep leaves no node a word, and without one all stay: both cases of the definition.
+use Rattle.units.proofs.Common.{_≡_, length, replicate, needs}
+use Rattle.state.proofs.Terms.{nothing}
 use Rattle.state.proofs.Lists.{length-mapped}
 use Rattle.store.specs.Swept.{sweptWords}
 use Rattle.store.specs.declared.Broom.{Broom}

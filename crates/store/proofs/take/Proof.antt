@@ -1,5 +1,5 @@
-use native.Mathlib.Omega.{arith}
-use borrow.Author.Needs.{needs}
+-- The oldest answer's length is the word at its node's place; `remove` takes so many out there, which is `Takes`.
+use Rattle.units.proofs.Common.{arith, needs}
 use Rattle.store.proofs.take.Statement.{statement}
 use Rattle.store.proofs.take.Tie as tie
 
@@ -36,7 +36,5 @@ returns c =
     }
 
 pub take-spec : {M : Type 1} → statement M
-take-spec =
-    tie.close
-    (tie.spec (λ c κs. search needs) (λ c κs. search needs) mul-words slice-read-words cast-remove remove-requires (λ c. search needs) (λ c. search needs)
-    sub-t (λ c. search needs) (λ c. search needs) (λ c. search needs) returns)
+take-spec = tie.close (tie.spec (λ c κs. search needs) (λ c κs. search needs) mul-words slice-read-words cast-remove remove-requires
+    (λ c. search needs) (λ c. search needs) sub-t (λ c. search needs) (λ c. search needs) (λ c. search needs) returns)

@@ -1,8 +1,6 @@
 -- What `governed` promises of an accepted packet is the meaning's step of it.
 -- Assumes nothing.
-use mathlib.Core.Path.{sym}
-use lib.Seq.{length-take-le}
-use borrow.Author.Needs.{needs}
+use Rattle.units.proofs.Common.{sym, length-take-le, needs}
 use Rattle.talk.proofs.Reading.{hub-needs, hub-houses}
 use Rattle.talk.proofs.at_hub.Statement.{statement}
 use Rattle.talk.proofs.at_hub.Tie as tie
@@ -25,6 +23,5 @@ returns c =
     hub-houses (s .pre .2) (s .pre .0) (d .command-data .ensures) (s .pre .1) (r .governed .result) (r .governed .ensures)
 
 pub at-hub-spec : {M : Type 1} → statement M
-at-hub-spec =
-    tie.close
-    (tie.spec (λ c. search needs) slice-aggregate (λ c κs. search needs) governed-requires (λ c. search needs) returns)
+at-hub-spec = tie.close (tie.spec (λ c. search needs) slice-aggregate (λ c κs. search needs) governed-requires (λ c. search needs)
+    returns)

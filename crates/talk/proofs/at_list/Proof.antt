@@ -1,8 +1,7 @@
 -- `at_list` hands the parts back as they were after a collection, and as `acknowledged` leaves them after an acknowledgement; what is said
 -- of it was written (laws of `Collecting`).
 -- Assumes nothing.
-use native.Mathlib.Omega.{arith}
-use borrow.Author.Needs.{needs}
+use Rattle.units.proofs.Common.{arith, needs}
 use Rattle.dialogout.proofs.Rooms.{said-short}
 use Rattle.talk.proofs.Collecting.{listed-kept, listed-said}
 use Rattle.talk.proofs.at_list.Statement.{statement}
@@ -26,17 +25,5 @@ returns-2 c is at s memory a fit =
     (omega (arith, q .next, said-short (k .acknowledged .result .reply) _ (k .acknowledged .ok .1 .1 .1 .1 .0)))
 
 pub at-list-spec : {M : Type 1} → statement M
-at-list-spec =
-    tie.close
-    (tie.spec
-    (λ c. search needs)
-    (λ c κs. search needs)
-    (λ c. search needs)
-    (λ c κs. search needs)
-    (λ c κs. search needs)
-    (λ c. search needs)
-    (λ c. search needs)
-    returns
-    (λ c. search needs)
-    (λ c. search needs)
-    returns-2)
+at-list-spec = tie.close (tie.spec (λ c. search needs) (λ c κs. search needs) (λ c. search needs) (λ c κs. search needs)
+    (λ c κs. search needs) (λ c. search needs) (λ c. search needs) returns (λ c. search needs) (λ c. search needs) returns-2)

@@ -1,16 +1,9 @@
 -- `at_reader` goes by what is asked: each function's promise is the meaning's step of the call (laws of `Reading`).
 -- Assumes nothing.
-use Prim.Native.Nat.{ℕ, _≤_}
-use mathlib.Core.Path.{_≡_, sym}
-use mathlib.Core.Bool.{true}
-use lib.ListN.{length, take}
-use lib.Seq.{length-take-le}
-use borrow.Author.Needs.{needs}
-use Rattle.units.specs.Stamp.{isStamp}
+use Rattle.units.proofs.Common.{sym, _≡_, true, ℕ, _≤_, length, take, length-take-le, needs, isStamp}
 use Rattle.units.specs.declared.Bytes.{Bytes}
 use Rattle.units.specs.declared.stamp.Stamp.{Stamp}
-use Rattle.meaning.specs.Bench.{full}
-use Rattle.meaning.specs.Call.{arrive, judged}
+use Rattle.meaning.proofs.Terms.{full, arrive, judged}
 use Rattle.settle.proofs.Seating.{memory-long}
 use Rattle.talk.specs.declared.aim.Order.{Order}
 use Rattle.talk.specs.declared.aim.Ask.{Ask}
@@ -112,30 +105,7 @@ returns-4 c =
     (c .left .ensures (a .node) (a .store .now) (a .plaques .now) (s .pre .1 .is))
 
 pub at-reader-spec : {M : Type 1} → statement M
-at-reader-spec =
-    tie.close
-    (tie.spec
-    (λ c. search needs)
-    (λ c. search needs)
-    slice-aggregate-command-data
-    (λ c κs. search needs)
-    obeyed-requires
-    (λ c. search needs)
-    looked-requires
-    (λ c. search needs)
-    (λ c. search needs)
-    (λ c. search needs)
-    slice-aggregate-brought
-    slice-aggregate-brought-2
-    brought-requires
-    (λ c. search needs)
-    (λ c κs. search needs)
-    (λ c. search needs)
-    (λ c. search needs)
-    returns
-    (λ c. search needs)
-    (λ c. search needs)
-    returns-2
-    (λ c. search needs)
-    returns-3
-    returns-4)
+at-reader-spec = tie.close (tie.spec (λ c. search needs) (λ c. search needs) slice-aggregate-command-data (λ c κs. search needs)
+    obeyed-requires (λ c. search needs) looked-requires (λ c. search needs) (λ c. search needs) (λ c. search needs)
+    slice-aggregate-brought slice-aggregate-brought-2 brought-requires (λ c. search needs) (λ c κs. search needs) (λ c. search needs)
+    (λ c. search needs) returns (λ c. search needs) (λ c. search needs) returns-2 (λ c. search needs) returns-3 returns-4)

@@ -1,11 +1,6 @@
 -- `put_aside` goes by its case, and a look's words are a part of the store.
 -- Assumes nothing.
-use Prim.Native.Nat.{ℕ, _+_, _-_, _≤_}
-use mathlib.Core.Path.{_≡_, refl, sym, ap, subst}
-use mathlib.Core.List.{List}
-use native.Mathlib.Omega.{arith}
-use lib.ListN.{length, drop, length-take}
-use borrow.Author.Needs.{needs}
+use Rattle.units.proofs.Common.{sym, _≡_, refl, ap, subst, List, ℕ, _≤_, _-_, _+_, arith, length, drop, length-take, needs}
 use Rattle.text.specs.Text.{Put}
 use Rattle.text.proofs.Writing.{put-as}
 use Rattle.dialog.specs.Dialog.{storeLine}
@@ -66,27 +61,7 @@ returns-4 c =
     (put-as (ap storeLine (part-is (g .0 .0) (g .0 .1 .0) (s .args .store .now) (l .0))) (c .before .before .put-store .ensures))
 
 pub put-aside-spec : {M : Type 1} → statement M
-put-aside-spec =
-    tie.close
-    (tie.spec
-    (λ c. search needs)
-    (λ c. search needs)
-    (λ c κs. search needs)
-    (λ c. search needs)
-    (λ c κs. search needs)
-    (λ c. search needs)
-    (λ c. search needs)
-    (λ c. search needs)
-    (λ c. search needs)
-    (λ c. search needs)
-    (λ c. search needs)
-    (λ c. search needs)
-    part-put-store-end
-    put-store-requires
-    returns
-    (λ c. search needs)
-    returns-2
-    (λ c. search needs)
-    returns-3
-    (λ c. search needs)
-    returns-4)
+put-aside-spec = tie.close (tie.spec (λ c. search needs) (λ c. search needs) (λ c κs. search needs) (λ c. search needs)
+    (λ c κs. search needs) (λ c. search needs) (λ c. search needs) (λ c. search needs) (λ c. search needs) (λ c. search needs)
+    (λ c. search needs) (λ c. search needs) part-put-store-end put-store-requires returns (λ c. search needs) returns-2
+    (λ c. search needs) returns-3 (λ c. search needs) returns-4)

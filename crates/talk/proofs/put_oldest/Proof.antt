@@ -1,13 +1,8 @@
 -- `put_oldest` says that no answer waits, or writes the words that stand at the node's place (laws of `Collecting`).
 -- Assumes nothing.
-use Prim.Native.Nat.{ℕ, _+_, _-_, _≤_}
-use mathlib.Core.Path.{_≡_}
-use mathlib.Core.List.{List}
-use native.Mathlib.Omega.{arith}
-use lib.ListN.{length, getD, take, drop, length-take, length-drop}
-use borrow.Author.Needs.{needs}
-use Rattle.meaning.specs.Bench.{full}
-use Rattle.state.specs.Machine.{machine}
+use Rattle.units.proofs.Common.{_≡_, List, ℕ, _≤_, _-_, _+_, arith, length, drop, getD, take, length-drop, length-take, needs}
+use Rattle.meaning.proofs.Terms.{full}
+use Rattle.state.proofs.Terms.{machine}
 use Rattle.promise.proofs.Parts.{parts}
 use Rattle.handover.proofs.Served.{Stands}
 use Rattle.handover.proofs.Handing.{inside, first, lies}
@@ -82,21 +77,6 @@ returns-2 c is at s memory a fit =
     (p .put-handed .ensures)
 
 pub put-oldest-spec : {M : Type 1} → statement M
-put-oldest-spec =
-    tie.close
-    (tie.spec
-    (λ c κs. search needs)
-    (λ c. search needs)
-    returns
-    place-of-requires
-    mul-end
-    shared-slice-read-end
-    cast-end
-    add-end
-    mul-put-handed
-    (λ c. search needs)
-    (λ c. search needs)
-    part-put-handed-end
-    put-handed-requires
-    (λ c. search needs)
+put-oldest-spec = tie.close (tie.spec (λ c κs. search needs) (λ c. search needs) returns place-of-requires mul-end shared-slice-read-end
+    cast-end add-end mul-put-handed (λ c. search needs) (λ c. search needs) part-put-handed-end put-handed-requires (λ c. search needs)
     returns-2)

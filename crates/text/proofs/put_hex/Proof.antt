@@ -1,11 +1,8 @@
+-- The four bytes of one number are the digits, and stand at four places in a row.
+-- Assumes nothing.
 use Rattle.text.proofs.Writing.{digit-small, lowest}
-use Prim.Native.Nat.{ℕ, _+_, _*_, _/_, _%_, _<_}
-use mathlib.Core.Path.{_≡_, refl}
-use mathlib.Core.List.{List, [], _∷_}
-use native.Mathlib.Omega.{arith}
+use Rattle.units.proofs.Common.{_≡_, refl, List, [], _∷_, ℕ, _+_, _<_, _*_, _%_, _/_, arith, set, length-set, needs}
 use native.Mathlib.Numerals.{towards-suc}
-use lib.ListN.{set, length-set}
-use borrow.Author.Needs.{needs}
 use Rattle.text.specs.Text.{Put, hexOf}
 use Rattle.text.proofs.put_hex.Statement.{statement}
 use Rattle.text.proofs.put_hex.Tie as tie
@@ -31,21 +28,7 @@ returns c =
     (digit-small (w / 16 % 16) (search needs))
 
 pub put-hex-spec : {M : Type 1} → statement M
-put-hex-spec =
-    tie.close
-    (tie.spec
-    (λ c κs. search needs)
-    (λ c. search needs)
-    (λ c. search needs)
-    (λ c. search needs)
-    (λ c. search needs)
-    (λ c. simp length-set (omega arith))
-    (λ c. search needs)
-    (λ c. search needs)
-    (λ c. simp length-set (omega arith))
-    (λ c. search needs)
-    (λ c. search needs)
-    (λ c. simp length-set (omega arith))
-    (λ c. search needs)
-    (λ c. search needs)
-    returns)
+put-hex-spec = tie.close (tie.spec (λ c κs. search needs) (λ c. search needs) (λ c. search needs) (λ c. search needs)
+    (λ c. search needs) (λ c. simp length-set (omega arith)) (λ c. search needs) (λ c. search needs)
+    (λ c. simp length-set (omega arith)) (λ c. search needs) (λ c. search needs) (λ c. simp length-set (omega arith))
+    (λ c. search needs) (λ c. search needs) returns)

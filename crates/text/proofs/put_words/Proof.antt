@@ -1,12 +1,9 @@
+-- What was written and the text of the words to come are the whole text; the last blank gives way to a line feed.
+-- Assumes nothing.
 use Rattle.text.proofs.Writing.{put-turn, put-done, put-then, put-length, put-as}
 use Rattle.text.proofs.Writing.{spaced, length-hex, length-spaced, words-next, words-done, no-words}
-use Prim.Native.Nat.{ℕ, _+_, _-_, _*_, _≤_}
-use mathlib.Core.Path.{_≡_, refl, ap, _∙_}
-use mathlib.Core.List.{List}
-use native.Mathlib.Omega.{arith}
-use denote.Ref.{now}
-use lib.ListN.{length, getD, drop, drop-of-length-le, length-set}
-use lib.Seq.{sets}
+use Rattle.units.proofs.Common.{_∙_, _≡_, refl, ap, List, ℕ, _≤_, _-_, _+_, _*_, arith, length, drop, getD, length-set, drop-of-length-le}
+use Rattle.units.proofs.Common.{sets, now}
 use Rattle.text.specs.Text.{Put}
 use Rattle.text.proofs.put_words.Statement.{statement}
 use Rattle.text.proofs.put_words.Tie as tie
@@ -56,22 +53,6 @@ returns-2 c =
     words-done ws (omega arith) (at-end ws (l .i) (omega arith) (omega arith) (l .inv .3))
 
 pub put-words-spec : {M : Type 1} → statement M
-put-words-spec =
-    tie.close
-    (tie.spec
-    Inv-loop
-    μ-loop
-    (λ c. (omega arith, omega arith, refl, refl))
-    (λ c. omega arith)
-    (λ c. omega arith)
-    (λ c κs. omega arith)
-    put-requires
-    (λ c. omega arith)
-    (λ c. omega arith)
-    loop-again
-    (λ c. c .before .before .loop .inv .2)
-    returns
-    (λ c. omega arith)
-    (λ c. omega arith)
-    (λ c. simp length-set (c .before .before .loop .inv .2))
-    returns-2)
+put-words-spec = tie.close (tie.spec Inv-loop μ-loop (λ c. (omega arith, omega arith, refl, refl)) (λ c. omega arith) (λ c. omega arith)
+    (λ c κs. omega arith) put-requires (λ c. omega arith) (λ c. omega arith) loop-again (λ c. c .before .before .loop .inv .2) returns
+    (λ c. omega arith) (λ c. omega arith) (λ c. simp length-set (c .before .before .loop .inv .2)) returns-2)

@@ -1,42 +1,12 @@
-use mathlib.Core.Path.{sym}
-use lib.Seq.{length-take-le}
-use borrow.Author.Needs.{needs}
+-- The text that was written is a part of the buffer.
+-- Assumes nothing.
+use Rattle.units.proofs.Common.{sym, length-take-le, needs}
 use Rattle.tour.proofs.say.Statement.{statement}
 use Rattle.tour.proofs.say.Tie as tie
-
-returns : tie.Need-returns
-returns c = search needs
-
-slice-aggregate-put-words : tie.Need-slice-aggregate-put-words
-slice-aggregate-put-words c = search needs
-
-put-words-requires : tie.Need-put-words-requires
-put-words-requires c κs = search needs
-
-array-share-prefix-line : tie.Need-array-share-prefix-line
-array-share-prefix-line c = search needs
 
 slice-aggregate-write-all : tie.Need-slice-aggregate-write-all
 slice-aggregate-write-all c = sym (length-take-le _ _ (search needs))
 
-write-all-requires : tie.Need-write-all-requires
-write-all-requires c κs = search needs
-
-returns-2 : tie.Need-returns-2
-returns-2 c = search needs
-
-returns-3 : tie.Need-returns-3
-returns-3 c = search needs
-
 pub say-spec : {M : Type 1} → statement M
-say-spec =
-    tie.close
-    (tie.spec
-    returns
-    slice-aggregate-put-words
-    put-words-requires
-    array-share-prefix-line
-    slice-aggregate-write-all
-    write-all-requires
-    returns-2
-    returns-3)
+say-spec = tie.close (tie.spec (λ c. search needs) (λ c. search needs) (λ c κs. search needs) (λ c. search needs)
+    slice-aggregate-write-all (λ c κs. search needs) (λ c. search needs) (λ c. search needs))

@@ -1,9 +1,6 @@
 -- From where the loop stands the field ends where it ends from its start: no blank stands between.
 -- Assumes nothing.
-use native.Mathlib.Omega.{arith}
-use denote.Ref.{now}
-use Prim.Native.Nat.{ℕ, _-_, _≤_}
-use lib.ListN.{length}
+use Rattle.units.proofs.Common.{ℕ, _≤_, _-_, arith, length, now}
 use Rattle.fields.specs.FieldsAt.{FieldAt}
 use Rattle.fields.proofs.Places.{at-blank, at-end, at-other}
 use Rattle.fields.proofs.field.field_end.Statement.{statement}
@@ -18,34 +15,24 @@ abbrev μ-loop : tie.MeasureT-loop
 loop-holds : tie.Need-loop-holds Inv-loop μ-loop
 loop-holds c = (omega arith, λ r f. f)
 
-shared-slice-read-if1 : tie.Need-shared-slice-read-if1 Inv-loop μ-loop
-shared-slice-read-if1 c = omega arith
-
 returns : tie.Need-returns Inv-loop μ-loop
-returns c = c .before .before .before .loop .inv .1 (c .before .before .before .loop .end) (at-blank (now (c .before .before .before .before .args .line)) (c .before .before .before .loop .end) (omega arith) (c .if1 .taken))
-
-add-end : tie.Need-add-end Inv-loop μ-loop
-add-end c = omega arith
-
-loop-less : tie.Need-loop-less Inv-loop μ-loop
-loop-less c = omega arith
+returns c =
+    let a = c .before .before .before .before .args in
+    c .before .before .before .loop .inv .1 (c .before .before .before .loop .end)
+    (at-blank (now (a .line)) (c .before .before .before .loop .end) (omega arith) (c .if1 .taken))
 
 loop-again : tie.Need-loop-again Inv-loop μ-loop
-loop-again c = (omega arith, λ r f. c .before .before .before .loop .inv .1 r (at-other (now (c .before .before .before .before .args .line)) (c .before .before .before .loop .end) r (omega arith) (c .if1 .left) f))
+loop-again c =
+    let a = c .before .before .before .before .args in (
+      omega arith,
+      λ r f. c .before .before .before .loop .inv .1 r (at-other (now (a .line)) (c .before .before .before .loop .end) r
+          (omega arith) (c .if1 .left) f),
+    )
 
 returns-2 : tie.Need-returns-2 Inv-loop μ-loop
-returns-2 c = c .before .loop .inv .1 (c .before .loop .end) (at-end (now (c .before .before .args .line)) (c .before .loop .end) (omega arith))
+returns-2 c = c .before .loop .inv .1 (c .before .loop .end) (at-end (now (c .before .before .args .line)) (c .before .loop .end)
+    (omega arith))
 
 pub field-end-spec : {M : Type 1} → statement M
-field-end-spec =
-    tie.close
-    (tie.spec
-    Inv-loop
-    μ-loop
-    loop-holds
-    shared-slice-read-if1
-    returns
-    add-end
-    loop-less
-    loop-again
-    returns-2)
+field-end-spec = tie.close (tie.spec Inv-loop μ-loop loop-holds (λ c. omega arith) returns (λ c. omega arith) (λ c. omega arith)
+    loop-again returns-2)

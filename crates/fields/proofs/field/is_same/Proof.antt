@@ -1,13 +1,7 @@
 -- What is left of the two is the same just where the two are.
 -- Assumes nothing.
-use native.Mathlib.Omega.{arith}
-use denote.Ref.{now}
-use mathlib.Core.Path.{_≡_, refl, sym, _∙_}
-use Prim.Native.Nat.{_-_, _≤_}
-use lib.ListN.{length, drop}
-use borrow.Author.Tests.{ne-eqb, eq-eqb}
-use Rattle.meaning.specs.Call.{same}
-use Rattle.units.proofs.Choice.{yes-and, no-and}
+use Rattle.units.proofs.Common.{sym, _∙_, _≡_, refl, _≤_, _-_, arith, length, drop, now, eq-eqb, ne-eqb, yes-and, no-and}
+use Rattle.meaning.proofs.Terms.{same}
 use Rattle.dialog.proofs.FieldLaws.{nowise, same-length, same-next, same-end}
 use Rattle.fields.proofs.field.is_same.Statement.{statement}
 use Rattle.fields.proofs.field.is_same.Tie as tie
@@ -24,39 +18,25 @@ returns c = sym (nowise _ (λ e. c .if1 .taken (same-length (now (c .before .arg
 loop-holds : tie.Need-loop-holds Inv-loop μ-loop
 loop-holds c = (omega arith, omega arith, refl)
 
-shared-slice-read-if2 : tie.Need-shared-slice-read-if2 Inv-loop μ-loop
-shared-slice-read-if2 c = omega arith
-
-shared-slice-read-if2-2 : tie.Need-shared-slice-read-if2-2 Inv-loop μ-loop
-shared-slice-read-if2-2 c = omega arith
-
 returns-2 : tie.Need-returns-2 Inv-loop μ-loop
-returns-2 c = sym (c .before .before .before .before .loop .inv .2 ∙ same-next (now (c .before .before .before .before .before .before .args .field)) (now (c .before .before .before .before .before .before .args .word)) (c .before .before .before .before .loop .i) (omega arith) (omega arith) ∙ no-and _ (ne-eqb _ _ (c .if2 .taken)))
-
-add-i : tie.Need-add-i Inv-loop μ-loop
-add-i c = omega arith
-
-loop-less : tie.Need-loop-less Inv-loop μ-loop
-loop-less c = omega arith
+returns-2 c =
+    let l = c .before .before .before .before in let a = l .before .before .args in
+    sym (l .loop .inv .2 ∙ same-next (now (a .field)) (now (a .word)) (l .loop .i) (omega arith) (omega arith) ∙ no-and _
+    (ne-eqb _ _ (c .if2 .taken)))
 
 loop-again : tie.Need-loop-again Inv-loop μ-loop
-loop-again c = (omega arith, omega arith, c .before .before .before .before .loop .inv .2 ∙ same-next (now (c .before .before .before .before .before .before .args .field)) (now (c .before .before .before .before .before .before .args .word)) (c .before .before .before .before .loop .i) (omega arith) (omega arith) ∙ yes-and (eq-eqb _ _ (c .if2 .left)))
+loop-again c =
+    let l = c .before .before .before .before in let a = l .before .before .args in (
+      omega arith,
+      omega arith,
+      l .loop .inv .2 ∙ same-next (now (a .field)) (now (a .word)) (l .loop .i) (omega arith) (omega arith) ∙
+          yes-and (eq-eqb _ _ (c .if2 .left)),
+    )
 
 returns-3 : tie.Need-returns-3 Inv-loop μ-loop
-returns-3 c = sym (c .before .loop .inv .2 ∙ same-end (now (c .before .before .before .args .field)) (now (c .before .before .before .args .word)) (c .before .loop .i) (omega arith) (omega arith))
+returns-3 c = sym (c .before .loop .inv .2 ∙ same-end (now (c .before .before .before .args .field))
+    (now (c .before .before .before .args .word)) (c .before .loop .i) (omega arith) (omega arith))
 
 pub is-same-spec : {M : Type 1} → statement M
-is-same-spec =
-    tie.close
-    (tie.spec
-    Inv-loop
-    μ-loop
-    returns
-    loop-holds
-    shared-slice-read-if2
-    shared-slice-read-if2-2
-    returns-2
-    add-i
-    loop-less
-    loop-again
-    returns-3)
+is-same-spec = tie.close (tie.spec Inv-loop μ-loop returns loop-holds (λ c. omega arith) (λ c. omega arith) returns-2 (λ c. omega arith)
+    (λ c. omega arith) loop-again returns-3)

@@ -1,109 +1,52 @@
 -- The seven tests are those of the definition, in its order.
 -- Assumes nothing.
-use mathlib.Core.Path.{sym, _∙_}
-use Rattle.units.proofs.Choice.{yes-cond, no-cond}
+use Rattle.units.proofs.Common.{sym, _∙_, _≡_, true, false, Bool, cond, needs, yes-cond, no-cond}
+use Rattle.fields.specs.declared.field.Verb.{Verb}
 use Rattle.fields.specs.FieldsAt.{verbOf}
-use borrow.Author.Needs.{needs}
 use Rattle.fields.proofs.field.verb_of.Statement.{statement}
 use Rattle.fields.proofs.field.verb_of.Tie as tie
 
-slice-aggregate-is-same : tie.Need-slice-aggregate-is-same
-slice-aggregate-is-same c = search needs
+-- a test that came out false, and one that came out true
+passed : {r t : Bool} {v w : Verb} (u : Verb) → r ≡ t → r ≡ false → v ≡ w → v ≡ cond t u w
+passed u e f g = g ∙ sym (no-cond u (sym e ∙ f))
 
-is-same-requires : tie.Need-is-same-requires
-is-same-requires c κs = search needs
+met : {r t : Bool} {v : Verb} (w : Verb) → r ≡ t → r ≡ true → v ≡ cond t v w
+met w e f = sym (yes-cond w (sym e ∙ f))
 
 returns : tie.Need-returns
 unfolding verbOf
-returns c = sym (yes-cond _ (sym (c .before .is-same .ensures) ∙ c .if1 .taken))
-
-slice-aggregate-is-same-2 : tie.Need-slice-aggregate-is-same-2
-slice-aggregate-is-same-2 c = search needs
-
-is-same-requires-2 : tie.Need-is-same-requires-2
-is-same-requires-2 c κs = search needs
+returns c = search (needs, passed, met) depth 12
 
 returns-2 : tie.Need-returns-2
 unfolding verbOf
-returns-2 c = sym (no-cond _ (sym (c .before .before .before .before .is-same .ensures) ∙ c .before .before .before .if1 .left) ∙ yes-cond _ (sym (c .before .is-same2 .ensures) ∙ c .if2 .taken))
-
-slice-aggregate-is-same-3 : tie.Need-slice-aggregate-is-same-3
-slice-aggregate-is-same-3 c = search needs
-
-is-same-requires-3 : tie.Need-is-same-requires-3
-is-same-requires-3 c κs = search needs
+returns-2 c = search (needs, passed, met) depth 12
 
 returns-3 : tie.Need-returns-3
 unfolding verbOf
-returns-3 c = sym (no-cond _ (sym (c .before .before .before .before .before .before .before .is-same .ensures) ∙ c .before .before .before .before .before .before .if1 .left) ∙ no-cond _ (sym (c .before .before .before .before .is-same2 .ensures) ∙ c .before .before .before .if2 .left) ∙ yes-cond _ (sym (c .before .is-same3 .ensures) ∙ c .if3 .taken))
-
-slice-aggregate-is-same-4 : tie.Need-slice-aggregate-is-same-4
-slice-aggregate-is-same-4 c = search needs
-
-is-same-requires-4 : tie.Need-is-same-requires-4
-is-same-requires-4 c κs = search needs
+returns-3 c = search (needs, passed, met) depth 12
 
 returns-4 : tie.Need-returns-4
 unfolding verbOf
-returns-4 c = sym (no-cond _ (sym (c .before .before .before .before .before .before .before .before .before .before .is-same .ensures) ∙ c .before .before .before .before .before .before .before .before .before .if1 .left) ∙ no-cond _ (sym (c .before .before .before .before .before .before .before .is-same2 .ensures) ∙ c .before .before .before .before .before .before .if2 .left) ∙ no-cond _ (sym (c .before .before .before .before .is-same3 .ensures) ∙ c .before .before .before .if3 .left) ∙ yes-cond _ (sym (c .before .is-same4 .ensures) ∙ c .if4 .taken))
-
-slice-aggregate-is-same-5 : tie.Need-slice-aggregate-is-same-5
-slice-aggregate-is-same-5 c = search needs
-
-is-same-requires-5 : tie.Need-is-same-requires-5
-is-same-requires-5 c κs = search needs
+returns-4 c = search (needs, passed, met) depth 12
 
 returns-5 : tie.Need-returns-5
 unfolding verbOf
-returns-5 c = sym (no-cond _ (sym (c .before .before .before .before .before .before .before .before .before .before .before .before .before .is-same .ensures) ∙ c .before .before .before .before .before .before .before .before .before .before .before .before .if1 .left) ∙ no-cond _ (sym (c .before .before .before .before .before .before .before .before .before .before .is-same2 .ensures) ∙ c .before .before .before .before .before .before .before .before .before .if2 .left) ∙ no-cond _ (sym (c .before .before .before .before .before .before .before .is-same3 .ensures) ∙ c .before .before .before .before .before .before .if3 .left) ∙ no-cond _ (sym (c .before .before .before .before .is-same4 .ensures) ∙ c .before .before .before .if4 .left) ∙ yes-cond _ (sym (c .before .is-same5 .ensures) ∙ c .if5 .taken))
-
-slice-aggregate-is-same-6 : tie.Need-slice-aggregate-is-same-6
-slice-aggregate-is-same-6 c = search needs
-
-is-same-requires-6 : tie.Need-is-same-requires-6
-is-same-requires-6 c κs = search needs
+returns-5 c = search (needs, passed, met) depth 12
 
 returns-6 : tie.Need-returns-6
 unfolding verbOf
-returns-6 c = sym (no-cond _ (sym (c .before .before .before .before .before .before .before .before .before .before .before .before .before .before .before .before .is-same .ensures) ∙ c .before .before .before .before .before .before .before .before .before .before .before .before .before .before .before .if1 .left) ∙ no-cond _ (sym (c .before .before .before .before .before .before .before .before .before .before .before .before .before .is-same2 .ensures) ∙ c .before .before .before .before .before .before .before .before .before .before .before .before .if2 .left) ∙ no-cond _ (sym (c .before .before .before .before .before .before .before .before .before .before .is-same3 .ensures) ∙ c .before .before .before .before .before .before .before .before .before .if3 .left) ∙ no-cond _ (sym (c .before .before .before .before .before .before .before .is-same4 .ensures) ∙ c .before .before .before .before .before .before .if4 .left) ∙ no-cond _ (sym (c .before .before .before .before .is-same5 .ensures) ∙ c .before .before .before .if5 .left) ∙ yes-cond _ (sym (c .before .is-same6 .ensures) ∙ c .if6 .taken))
-
-slice-aggregate-is-same-7 : tie.Need-slice-aggregate-is-same-7
-slice-aggregate-is-same-7 c = search needs
-
-is-same-requires-7 : tie.Need-is-same-requires-7
-is-same-requires-7 c κs = search needs
+returns-6 c = search (needs, passed, met) depth 12
 
 returns-7 : tie.Need-returns-7
 unfolding verbOf
-returns-7 c = sym (no-cond _ (sym (c .before .before .before .before .before .before .before .before .before .before .before .before .before .before .before .before .before .before .before .is-same .ensures) ∙ c .before .before .before .before .before .before .before .before .before .before .before .before .before .before .before .before .before .before .if1 .left) ∙ no-cond _ (sym (c .before .before .before .before .before .before .before .before .before .before .before .before .before .before .before .before .is-same2 .ensures) ∙ c .before .before .before .before .before .before .before .before .before .before .before .before .before .before .before .if2 .left) ∙ no-cond _ (sym (c .before .before .before .before .before .before .before .before .before .before .before .before .before .is-same3 .ensures) ∙ c .before .before .before .before .before .before .before .before .before .before .before .before .if3 .left) ∙ no-cond _ (sym (c .before .before .before .before .before .before .before .before .before .before .is-same4 .ensures) ∙ c .before .before .before .before .before .before .before .before .before .if4 .left) ∙ no-cond _ (sym (c .before .before .before .before .before .before .before .is-same5 .ensures) ∙ c .before .before .before .before .before .before .if5 .left) ∙ no-cond _ (sym (c .before .before .before .before .is-same6 .ensures) ∙ c .before .before .before .if6 .left) ∙ yes-cond _ (sym (c .before .is-same7 .ensures) ∙ c .if7 .taken))
+returns-7 c = search (needs, passed, met) depth 12
 
 returns-8 : tie.Need-returns-8
 unfolding verbOf
-returns-8 c = sym (no-cond _ (sym (c .before .before .before .before .before .before .before .before .before .before .before .before .before .before .before .before .before .before .before .is-same .ensures) ∙ c .before .before .before .before .before .before .before .before .before .before .before .before .before .before .before .before .before .before .if1 .left) ∙ no-cond _ (sym (c .before .before .before .before .before .before .before .before .before .before .before .before .before .before .before .before .is-same2 .ensures) ∙ c .before .before .before .before .before .before .before .before .before .before .before .before .before .before .before .if2 .left) ∙ no-cond _ (sym (c .before .before .before .before .before .before .before .before .before .before .before .before .before .is-same3 .ensures) ∙ c .before .before .before .before .before .before .before .before .before .before .before .before .if3 .left) ∙ no-cond _ (sym (c .before .before .before .before .before .before .before .before .before .before .is-same4 .ensures) ∙ c .before .before .before .before .before .before .before .before .before .if4 .left) ∙ no-cond _ (sym (c .before .before .before .before .before .before .before .is-same5 .ensures) ∙ c .before .before .before .before .before .before .if5 .left) ∙ no-cond _ (sym (c .before .before .before .before .is-same6 .ensures) ∙ c .before .before .before .if6 .left) ∙ no-cond _ (sym (c .before .is-same7 .ensures) ∙ c .if7 .left))
+returns-8 c = search (needs, passed) depth 12
 
 pub verb-of-spec : {M : Type 1} → statement M
-verb-of-spec =
-    tie.close
-    (tie.spec
-    slice-aggregate-is-same
-    is-same-requires
-    returns
-    slice-aggregate-is-same-2
-    is-same-requires-2
-    returns-2
-    slice-aggregate-is-same-3
-    is-same-requires-3
-    returns-3
-    slice-aggregate-is-same-4
-    is-same-requires-4
-    returns-4
-    slice-aggregate-is-same-5
-    is-same-requires-5
-    returns-5
-    slice-aggregate-is-same-6
-    is-same-requires-6
-    returns-6
-    slice-aggregate-is-same-7
-    is-same-requires-7
-    returns-7
-    returns-8)
+verb-of-spec = tie.close (tie.spec (λ c. search needs) (λ c κs. search needs) returns (λ c. search needs) (λ c κs. search needs)
+    returns-2 (λ c. search needs) (λ c κs. search needs) returns-3 (λ c. search needs) (λ c κs. search needs) returns-4
+    (λ c. search needs) (λ c κs. search needs) returns-5 (λ c. search needs) (λ c κs. search needs) returns-6 (λ c. search needs)
+    (λ c κs. search needs) returns-7 returns-8)

@@ -1,13 +1,8 @@
 -- A digit is of one of three kinds, and in each the sum is its value.
 -- Assumes nothing.
-use Prim.Native.Nat.{ℕ, _+_, _*_, _/_, _%_, _<_}
-use mathlib.Core.Path.{_≡_, sym, _∙_}
-use mathlib.Core.Bool.{true}
-use mathlib.Core.Logic.{⊎-elim}
-use native.Mathlib.Omega.{arith}
+use Rattle.units.proofs.Common.{sym, _∙_, _≡_, ⊎-elim, true, ℕ, _+_, _<_, _*_, _%_, _/_, arith, needs}
 use Rattle.dialog.specs.Fields.{isHex, hexDigit}
 use Rattle.dialog.proofs.HexLaws.{hex-cases, digit-low, digit-upper, digit-lower}
-use borrow.Author.Needs.{needs}
 use Rattle.fields.proofs.hex.digit_of.Statement.{statement}
 use Rattle.fields.proofs.hex.digit_of.Tie as tie
 

@@ -1,16 +1,9 @@
 -- As in `put_words`, two digits a turn.
 -- Assumes nothing.
-use mathlib.Core.Path.{_≡_, refl, sym, ap, _∙_}
-use denote.Ref.{now}
-use native.Mathlib.Omega.{arith}
-use Prim.Native.Nat.{_+_, _-_, _*_, _≤_}
-use native.Mathlib.Numerals.{add-one}
-use lib.ListN.{length, length-set, drop}
-use lib.Seq.{sets}
+use Rattle.units.proofs.Common.{sym, _∙_, _≡_, refl, ap, _≤_, _-_, _+_, _*_, add-one, arith, length, drop, length-set, sets, now, needs}
 use Rattle.dialog.specs.Fields.{isHex, pairs}
 use Rattle.dialog.proofs.FieldLaws.{every-is}
 use Rattle.dialog.proofs.HexLaws.{onto-sets, onto-none, sets-past, no-bytes, some-bytes, length-pairs, pairs-next, pairs-end, of-bytes}
-use borrow.Author.Needs.{needs}
 use Rattle.fields.proofs.hex.put_bytes.Statement.{statement}
 use Rattle.fields.proofs.hex.put_bytes.Tie as tie
 use Rattle.fields.proofs.hex.put_bytes.Reads as reads
@@ -19,16 +12,11 @@ use Rattle.fields.proofs.field.is_same.Reads as is-same-reads
 use Rattle.fields.proofs.hex.byte_of.Reads as byte-of-reads
 
 abbrev Inv-loop : tie.InvT-loop
-Inv-loop field out₀ n i₀ at₀ out i at = (i ≤ length out₀) × (at ≡ 2 * i) × (length out ≡ length out₀) × (sets out i (pairs (drop at field)) ≡ sets out₀ 0 (pairs field))
+Inv-loop field out₀ n i₀ at₀ out i at = (i ≤ length out₀) × (at ≡ 2 * i) × (length out ≡ length out₀) ×
+    (sets out i (pairs (drop at field)) ≡ sets out₀ 0 (pairs field))
 
 abbrev μ-loop : tie.MeasureT-loop
 μ-loop field out₀ n i₀ at₀ out i at = length out₀ - i
-
-slice-aggregate-is-same : tie.Need-slice-aggregate-is-same Inv-loop μ-loop
-slice-aggregate-is-same c = refl
-
-is-same-requires : tie.Need-is-same-requires Inv-loop μ-loop
-is-same-requires c κs = tt
 
 returns : tie.Need-returns Inv-loop μ-loop
 returns c =
@@ -51,56 +39,51 @@ same-length c = c .before .before .loop .inv .2
 
 returns-2 : tie.Need-returns-2 Inv-loop μ-loop
 returns-2 c =
-    let f = now (c .before .before .before .before .before .before .before .before .args .field) in
-    let d = sym (c .before .before .before .before .is-same .ensures) ∙ c .before .before .before .if1 .left in
-    let b = of-bytes (c .before .before .before .before .before .before .before .before .args .most .0) f d (c .before .before .before .before .before .before .before .before .pre) in
-    (sym (ap length (some-bytes f d) ∙ length-pairs f), sym (ap (sets _ (c .before .before .loop .i)) (pairs-end f (c .before .before .loop .at) (omega arith))) ∙ c .before .before .loop .inv .3 ∙ sym (rw (some-bytes f d) (onto-sets _ _)))
-
-shared-slice-read-byte-of : tie.Need-shared-slice-read-byte-of Inv-loop μ-loop
-shared-slice-read-byte-of c = omega arith
-
-add-byte-of : tie.Need-add-byte-of Inv-loop μ-loop
-add-byte-of c = omega arith
+    let p = c .before .before .before .before in let s = p .before .before .before .before in
+    let f = now (s .args .field) in
+    let d = sym (p .is-same .ensures) ∙ c .before .before .before .if1 .left in
+    let b = of-bytes (s .args .most .0) f d (s .pre) in (
+      sym (ap length (some-bytes f d) ∙ length-pairs f),
+      sym (ap (sets _ (c .before .before .loop .i))
+          (pairs-end f (c .before .before .loop .at) (omega arith))) ∙ c .before .before .loop .inv .3 ∙ sym
+          (rw (some-bytes f d) (onto-sets _ _)),
+    )
 
 shared-slice-read-byte-of-2 : tie.Need-shared-slice-read-byte-of-2 Inv-loop μ-loop
 shared-slice-read-byte-of-2 c =
-    let f = now (c .before .before .before .before .before .before .before .before .before .before .args .field) in
-    let d = sym (c .before .before .before .before .before .before .is-same .ensures) ∙ c .before .before .before .before .before .if1 .left in
-    let b = of-bytes (c .before .before .before .before .before .before .before .before .before .before .args .most .0) f d (c .before .before .before .before .before .before .before .before .before .before .pre) in
+    let p = c .before .before .before .before .before in let s = p .before .before .before .before .before in
+    let f = now (s .args .field) in
+    let d = sym (p .before .is-same .ensures) ∙ p .if1 .left in
+    let b = of-bytes (s .args .most .0) f d (s .pre) in
     omega arith
 
 byte-of-requires : tie.Need-byte-of-requires Inv-loop μ-loop
 byte-of-requires c κs =
-    let f = now (c .before .before .before .before .before .before .before .before .before .before .args .field) in
-    let d = sym (c .before .before .before .before .before .before .is-same .ensures) ∙ c .before .before .before .before .before .if1 .left in
-    let b = of-bytes (c .before .before .before .before .before .before .before .before .before .before .args .most .0) f d (c .before .before .before .before .before .before .before .before .before .before .pre) in
-    (every-is isHex f 0 (b .digits) (c .before .before .before .before .loop .at) (omega arith), every-is isHex f 0 (b .digits) (c .before .before .before .before .loop .at + 1) (omega arith))
-
-slice-write-out : tie.Need-slice-write-out Inv-loop μ-loop
-slice-write-out c = omega arith
-
-add-i : tie.Need-add-i Inv-loop μ-loop
-add-i c = omega arith
+    let l = c .before .before .before .before in let s = l .before .before .before .before .before .before in
+    let f = now (s .args .field) in
+    let d = sym (l .before .before .is-same .ensures) ∙ l .before .if1 .left in
+    let b = of-bytes (s .args .most .0) f d (s .pre) in
+    (every-is isHex f 0 (b .digits) (l .loop .at) (omega arith), every-is isHex f 0 (b .digits) (l .loop .at + 1) (omega arith))
 
 add-at : tie.Need-add-at Inv-loop μ-loop
 add-at c =
-    let f = now (c .before .before .before .before .before .before .before .before .before .before .before .args .field) in
-    let d = sym (c .before .before .before .before .before .before .before .is-same .ensures) ∙ c .before .before .before .before .before .before .if1 .left in
-    let b = of-bytes (c .before .before .before .before .before .before .before .before .before .before .before .args .most .0) f d (c .before .before .before .before .before .before .before .before .before .before .before .pre) in
+    let p = c .before .before .before .before .before .before in let s = p .before .before .before .before .before in
+    let f = now (s .args .field) in
+    let d = sym (p .before .is-same .ensures) ∙ p .if1 .left in
+    let b = of-bytes (s .args .most .0) f d (s .pre) in
     omega arith
-
-loop-less : tie.Need-loop-less Inv-loop μ-loop
-loop-less c = omega arith
 
 loop-again : tie.Need-loop-again Inv-loop μ-loop
 loop-again c =
-    let f = now (c .before .before .before .before .before .before .before .before .before .before .before .args .field) in
-    let d = sym (c .before .before .before .before .before .before .before .is-same .ensures) ∙ c .before .before .before .before .before .before .if1 .left in
-    let b = of-bytes (c .before .before .before .before .before .before .before .before .before .before .before .args .most .0) f d (c .before .before .before .before .before .before .before .before .before .before .before .pre) in (
+    let l = c .before .before .before .before .before in let s = l .before .before .before .before .before .before in
+    let f = now (s .args .field) in
+    let d = sym (l .before .before .is-same .ensures) ∙ l .before .if1 .left in
+    let b = of-bytes (s .args .most .0) f d (s .pre) in (
       omega arith,
       omega arith,
-      simp length-set (c .before .before .before .before .before .loop .inv .2),
-      rw (add-one (c .before .before .before .before .before .loop .i), c .byte-of .ensures) (sym (ap (sets _ (c .before .before .before .before .before .loop .i)) (pairs-next f (c .before .before .before .before .before .loop .at) (omega arith))) ∙ c .before .before .before .before .before .loop .inv .3),
+      simp length-set (l .loop .inv .2),
+      rw (add-one (l .loop .i), c .byte-of .ensures) (sym (ap (sets _ (l .loop .i)) (pairs-next f (l .loop .at) (omega arith))) ∙
+          l .loop .inv .3),
     )
 
 same-length-2 : tie.Need-same-length-2 Inv-loop μ-loop
@@ -108,32 +91,16 @@ same-length-2 c = c .before .loop .inv .2
 
 returns-3 : tie.Need-returns-3 Inv-loop μ-loop
 returns-3 c =
-    let f = now (c .before .before .before .before .before .before .before .args .field) in
+    let s = c .before .before .before .before .before .before .before in
+    let f = now (s .args .field) in
     let d = sym (c .before .before .before .is-same .ensures) ∙ c .before .before .if1 .left in
-    let b = of-bytes (c .before .before .before .before .before .before .before .args .most .0) f d (c .before .before .before .before .before .before .before .pre) in
-    (sym (ap length (some-bytes f d) ∙ length-pairs f), sym (sets-past (c .before .loop .out) (c .before .loop .i) (pairs (drop (c .before .loop .at) f)) (omega arith)) ∙ c .before .loop .inv .3 ∙ sym (rw (some-bytes f d) (onto-sets _ _)))
+    let b = of-bytes (s .args .most .0) f d (s .pre) in (
+      sym (ap length (some-bytes f d) ∙ length-pairs f),
+      sym (sets-past (c .before .loop .out) (c .before .loop .i)
+          (pairs (drop (c .before .loop .at) f)) (omega arith)) ∙ c .before .loop .inv .3 ∙ sym (rw (some-bytes f d) (onto-sets _ _)),
+    )
 
 pub put-bytes-spec : {M : Type 1} → statement M
-put-bytes-spec =
-    tie.close
-    (tie.spec
-    Inv-loop
-    μ-loop
-    slice-aggregate-is-same
-    is-same-requires
-    returns
-    cast-n
-    loop-holds
-    same-length
-    returns-2
-    shared-slice-read-byte-of
-    add-byte-of
-    shared-slice-read-byte-of-2
-    byte-of-requires
-    slice-write-out
-    add-i
-    add-at
-    loop-less
-    loop-again
-    same-length-2
-    returns-3)
+put-bytes-spec = tie.close (tie.spec Inv-loop μ-loop (λ c. refl) (λ c κs. tt) returns cast-n loop-holds same-length returns-2
+    (λ c. omega arith) (λ c. omega arith) shared-slice-read-byte-of-2 byte-of-requires (λ c. omega arith) (λ c. omega arith) add-at
+    (λ c. omega arith) loop-again same-length-2 returns-3)

@@ -1,8 +1,6 @@
 -- The two tests are those of `within`.
 -- Assumes nothing.
-use mathlib.Core.Path.{sym}
-use borrow.Author.Tests.{lt-leb, le-leb}
-use Rattle.units.proofs.Choice.{yes-and, no-and}
+use Rattle.units.proofs.Common.{sym, le-leb, lt-leb, yes-and, no-and}
 use Rattle.fields.proofs.number.is_within.Statement.{statement}
 use Rattle.fields.proofs.number.is_within.Tie as tie
 

@@ -1,11 +1,7 @@
-use mathlib.Core.Path.{refl, sym, _∙_}
-use denote.Ref.{now}
-use borrow.Author.Tests.{eq-eqb, ne-eqb}
-use Rattle.units.proofs.Choice.{yes-and, no-and}
-use lib.ListN.{length-take}
+-- What is left to compare decides, at each turn (laws of `Alike`).
+-- Assumes nothing.
+use Rattle.units.proofs.Common.{sym, _∙_, refl, _≤_, _-_, arith, length-take, now, eq-eqb, ne-eqb, yes-and, no-and}
 use Rattle.guide.proofs.Alike.{Left, alike, unlike, ended, same-unlike}
-use Prim.Native.Nat.{_≤_, _-_}
-use native.Mathlib.Omega.{arith}
 use Rattle.guide.proofs.again.same.Statement.{statement}
 use Rattle.guide.proofs.again.same.Tie as tie
 
@@ -19,53 +15,29 @@ returns : tie.Need-returns Inv-loop μ-loop
 returns c = sym (no-and _ (ne-eqb _ _ (c .if1 .taken)))
 
 returns-2 : tie.Need-returns-2 Inv-loop μ-loop
-returns-2 c = sym (yes-and (eq-eqb _ _ (c .before .if1 .left)) ∙ same-unlike _ _ (λ e. omega (arith, length-take (c .before .before .args .n) (now (c .before .before .args .again)))))
-
-loop-holds : tie.Need-loop-holds Inv-loop μ-loop
-loop-holds c = (omega arith, refl)
-
-mul-if3 : tie.Need-mul-if3 Inv-loop μ-loop
-mul-if3 c = omega arith
-
-shared-slice-read-if3 : tie.Need-shared-slice-read-if3 Inv-loop μ-loop
-shared-slice-read-if3 c = omega arith
-
-mul-if3-2 : tie.Need-mul-if3-2 Inv-loop μ-loop
-mul-if3-2 c = omega arith
-
-shared-slice-read-if3-2 : tie.Need-shared-slice-read-if3-2 Inv-loop μ-loop
-shared-slice-read-if3-2 c = omega arith
+returns-2 c = sym (yes-and (eq-eqb _ _ (c .before .if1 .left)) ∙ same-unlike _ _
+    (λ e. omega (arith, length-take (c .before .before .args .n) (now (c .before .before .args .again)))))
 
 returns-3 : tie.Need-returns-3 Inv-loop μ-loop
-returns-3 c = sym (yes-and (eq-eqb _ _ (c .before .before .before .before .before .before .if1 .left)) ∙ unlike (now (c .before .before .before .before .before .before .before .args .words)) (now (c .before .before .before .before .before .before .before .args .again)) (c .before .before .before .before .before .before .before .args .n) (c .before .before .before .before .loop .i) (omega arith) (omega arith) (c .before .before .before .before .loop .inv .1) (omega arith) (c .if3 .taken))
-
-add-i : tie.Need-add-i Inv-loop μ-loop
-add-i c = omega arith
-
-loop-less : tie.Need-loop-less Inv-loop μ-loop
-loop-less c = omega arith
+returns-3 c =
+    let l = c .before .before .before .before in let a = l .before .before .before .args in
+    sym (yes-and (eq-eqb _ _ (l .before .before .if1 .left)) ∙ unlike (now (a .words)) (now (a .again)) (a .n) (l .loop .i) (omega arith)
+    (omega arith) (l .loop .inv .1) (omega arith) (c .if3 .taken))
 
 loop-again : tie.Need-loop-again Inv-loop μ-loop
-loop-again c = (omega arith, alike (now (c .before .before .before .before .before .before .before .args .words)) (now (c .before .before .before .before .before .before .before .args .again)) (c .before .before .before .before .before .before .before .args .n) (c .before .before .before .before .loop .i) (omega arith) (omega arith) (c .before .before .before .before .loop .inv .1) (omega arith) (c .if3 .left))
+loop-again c =
+    let l = c .before .before .before .before in let a = l .before .before .before .args in (
+      omega arith,
+      alike (now (a .words)) (now (a .again)) (a .n) (l .loop .i) (omega arith) (omega arith) (l .loop .inv .1) (omega arith)
+          (c .if3 .left),
+    )
 
 returns-4 : tie.Need-returns-4 Inv-loop μ-loop
-returns-4 c = sym (yes-and (eq-eqb _ _ (c .before .before .before .if1 .left)) ∙ ended (now (c .before .before .before .before .args .words)) (now (c .before .before .before .before .args .again)) (c .before .before .before .before .args .n) (c .before .loop .i) (omega arith) (omega arith) (c .before .loop .inv .1) (omega arith))
+returns-4 c =
+    let a = c .before .before .before .before .args in
+    sym (yes-and (eq-eqb _ _ (c .before .before .before .if1 .left)) ∙ ended (now (a .words)) (now (a .again)) (a .n) (c .before .loop .i)
+    (omega arith) (omega arith) (c .before .loop .inv .1) (omega arith))
 
 pub same-spec : {M : Type 1} → statement M
-same-spec =
-    tie.close
-    (tie.spec
-    Inv-loop
-    μ-loop
-    returns
-    returns-2
-    loop-holds
-    mul-if3
-    shared-slice-read-if3
-    mul-if3-2
-    shared-slice-read-if3-2
-    returns-3
-    add-i
-    loop-less
-    loop-again
-    returns-4)
+same-spec = tie.close (tie.spec Inv-loop μ-loop returns returns-2 (λ c. (omega arith, refl)) (λ c. omega arith) (λ c. omega arith)
+    (λ c. omega arith) (λ c. omega arith) returns-3 (λ c. omega arith) (λ c. omega arith) loop-again returns-4)

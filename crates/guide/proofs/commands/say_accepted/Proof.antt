@@ -1,41 +1,17 @@
+-- What is said in turn goes on from place to place.
+-- Assumes nothing.
 use Rattle.guide.proofs.Saying.{goes-then}
-use borrow.Author.Needs.{needs}
+use Rattle.units.proofs.Common.{needs}
 use Rattle.guide.proofs.commands.say_accepted.Statement.{statement}
 use Rattle.guide.proofs.commands.say_accepted.Tie as tie
 
-slice-aggregate-say : tie.Need-slice-aggregate-say
-slice-aggregate-say c = search needs
-
-say-requires : tie.Need-say-requires
-say-requires c κs = search needs
-
-say-command-requires : tie.Need-say-command-requires
-say-command-requires c κs = search needs
-
-say-data-requires : tie.Need-say-data-requires
-say-data-requires c κs = search needs
-
-same-command-requires : tie.Need-same-command-requires
-same-command-requires c κs = search needs
-
-say-same-requires : tie.Need-say-same-requires
-say-same-requires c κs = search needs
-
-same-length : tie.Need-same-length
-same-length c = search needs
-
 returns : tie.Need-returns
-returns c = goes-then (c .before .before .before .before .before .before .before .before .before .before .before .before .before .before .before .say .ensures .on) (goes-then (c .before .before .before .before .before .before .before .before .before .before .before .say-command .ensures) (goes-then (c .before .before .before .before .before .before .before .say-data .ensures) (c .before .before .say-same .ensures .on)))
+returns c =
+    let p = c .before .before .before .before .before .before .before in let q = p .before .before .before .before in
+    let r = q .before .before .before .before in
+    goes-then (r .say .ensures .on) (goes-then (q .say-command .ensures)
+    (goes-then (p .say-data .ensures) (c .before .before .say-same .ensures .on)))
 
 pub say-accepted-spec : {M : Type 1} → statement M
-say-accepted-spec =
-    tie.close
-    (tie.spec
-    slice-aggregate-say
-    say-requires
-    say-command-requires
-    say-data-requires
-    same-command-requires
-    say-same-requires
-    same-length
-    returns)
+say-accepted-spec = tie.close (tie.spec (λ c. search needs) (λ c κs. search needs) (λ c κs. search needs) (λ c κs. search needs)
+    (λ c κs. search needs) (λ c κs. search needs) (λ c. search needs) returns)

@@ -1,8 +1,7 @@
-use mathlib.Core.Path.{sym}
-use borrow.Author.Tests.{lt-ltb, le-ltb}
-use Rattle.units.proofs.Choice.{yes-and, no-and}
+-- The place has the byte, or lies past the end.
+-- Assumes nothing.
+use Rattle.units.proofs.Common.{sym, le-ltb, lt-ltb, needs, yes-and, no-and}
 use Rattle.guide.specs.Scan.{standsAt}
-use borrow.Author.Needs.{needs}
 use Rattle.guide.proofs.scan.starts.Statement.{statement}
 use Rattle.guide.proofs.scan.starts.Tie as tie
 
@@ -10,12 +9,9 @@ returns : tie.Need-returns
 unfolding standsAt
 returns c = sym (no-and _ (le-ltb _ _ (c .if1 .taken)))
 
-shared-slice-read-result : tie.Need-shared-slice-read-result
-shared-slice-read-result c = search needs
-
 returns-2 : tie.Need-returns-2
 unfolding standsAt
 returns-2 c = sym (yes-and (lt-ltb _ _ (c .before .if1 .left)))
 
 pub starts-spec : {M : Type 1} → statement M
-starts-spec = tie.close (tie.spec returns shared-slice-read-result returns-2)
+starts-spec = tie.close (tie.spec returns (λ c. search needs) returns-2)

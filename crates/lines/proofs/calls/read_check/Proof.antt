@@ -1,38 +1,20 @@
 -- A node, a stamp and a clock are seven fields.
 -- Assumes nothing.
-use mathlib.Core.Path.{refl, sym, _∙_}
-use denote.Ref.{now}
-use native.Mathlib.Omega.{arith}
-use mathlib.Core.Logic.{⊎-elim}
-use borrow.Author.Tests.{not-true, not-false}
+use Rattle.units.proofs.Common.{sym, _∙_, refl, ⊎-elim, [], _∷_, arith, length-drop, not-false, not-true, needs}
 use Rattle.dialog.proofs.FieldLaws.{clash}
-use Rattle.fields.specs.FieldsAt.{fieldsFrom}
-use Rattle.lines.proofs.Found.{no-more, one-more, check-heard, check-unheard}
-use Rattle.fields.proofs.Numbers.{node-is, number-is-at, stamp-is-at}
-use Rattle.dialog.proofs.SpokenLaws.{numbers-enough}
-use mathlib.Core.List.{[], _∷_}
-use lib.ListN.{drop, length-drop}
-use borrow.Author.Needs.{needs}
+use Rattle.lines.specs.Heard.{heardOf}
+use Rattle.lines.proofs.Found.{too-many, all-there, no-check}
+use Rattle.fields.proofs.Numbers.{all-from, node-is, number-is-at, stamp-is-at}
+use Rattle.dialog.proofs.SpokenLaws.{is-check}
 use Rattle.lines.proofs.calls.read_check.Statement.{statement}
 use Rattle.lines.proofs.calls.read_check.Tie as tie
 
-read-node-requires : tie.Need-read-node-requires
-read-node-requires c κs = search needs
-
-read-stamp-requires : tie.Need-read-stamp-requires
-read-stamp-requires c κs = search needs
-
-read-number-requires : tie.Need-read-number-requires
-read-number-requires c κs = search needs
-
 returns : tie.Need-returns
 returns c =
-    let line = now (c .before .before .before .before .before .before .args .line) in
-    let fs = fieldsFrom line (c .before .before .before .before .before .before .args .at) in
-    let n = node-is line fs 0 (c .before .before .before .before .before .before .args .at) _ refl (c .before .before .before .before .read-node .ensures) in
-    let t = stamp-is-at line fs 1 _ _ (n .rest) (c .before .before .before .read-stamp .ensures) in
-    let k = number-is-at line fs 4294967295 6 _ _ (t .rest) (c .before .before .read-number .ensures) in
-    check-unheard fs (λ f. ⊎-elim
+    let n = node-is all-from (c .before .before .before .before .read-node .ensures) in
+    let t = stamp-is-at (n .rest) (c .before .before .before .read-stamp .ensures) in
+    let k = number-is-at (t .rest) (c .before .before .read-number .ensures) in
+    no-check _ (λ f. ⊎-elim
     (λ w. clash (n .ok) (not-true _ (w .taken)) (f .node))
     (⊎-elim
     (λ w. clash (t .ok) (not-true _ (w .2 .taken)) (f .stamp))
@@ -41,42 +23,33 @@ returns c =
 
 returns-2 : tie.Need-returns-2
 returns-2 c =
-    let line = now (c .before .before .before .before .before .before .before .before .before .before .before .args .line) in
-    let fs = fieldsFrom line (c .before .before .before .before .before .before .before .before .before .before .before .args .at) in
-    let n = node-is line fs 0 (c .before .before .before .before .before .before .before .before .before .before .before .args .at) _ refl (c .before .before .before .before .before .before .before .before .before .read-node .ensures) in
-    let t = stamp-is-at line fs 1 _ _ (n .rest) (c .before .before .before .before .before .before .before .before .read-stamp .ensures) in
-    let k = number-is-at line fs 4294967295 6 _ _ (t .rest) (c .before .before .before .before .before .before .before .read-number .ensures) in
-    check-unheard fs (λ f. omega (arith, one-more line fs 7 (c .before .before .before .before .before .before .before .read-number .result .next) (k .rest) (omega arith), f .seven))
+    let p = c .before .before .before .before .before .before .before in
+    let n = node-is all-from (p .before .before .read-node .ensures) in
+    let t = stamp-is-at (n .rest) (p .before .read-stamp .ensures) in
+    let k = number-is-at (t .rest) (p .read-number .ensures) in
+    no-check _ (λ e. too-many (k .rest) (omega arith) (e .seven))
 
 returns-3 : tie.Need-returns-3
+unfolding heardOf
 returns-3 c =
-    let line = now (c .before .before .before .before .before .before .before .before .before .before .before .before .args .line) in
-    let fs = fieldsFrom line (c .before .before .before .before .before .before .before .before .before .before .before .before .args .at) in
-    let n = node-is line fs 0 (c .before .before .before .before .before .before .before .before .before .before .before .before .args .at) _ refl (c .before .before .before .before .before .before .before .before .before .before .read-node .ensures) in
-    let t = stamp-is-at line fs 1 _ _ (n .rest) (c .before .before .before .before .before .before .before .before .before .read-stamp .ensures) in
-    let k = number-is-at line fs 4294967295 6 _ _ (t .rest) (c .before .before .before .before .before .before .before .before .read-number .ensures) in
-    let ok = not-false _ (c .before .before .before .before .before .before .if1 .left) in
-    let tok = not-false _ (c .before .before .before .before .if2 .left) in
+    let p = c .before .before .before .before in let r = p .before .before .before .before in
+    let n = node-is all-from (r .before .before .read-node .ensures) in
+    let t = stamp-is-at (n .rest) (r .before .read-stamp .ensures) in
+    let k = number-is-at (t .rest) (r .read-number .ensures) in
+    let ok = not-false _ (p .before .before .if1 .left) in
+    let tok = not-false _ (p .if2 .left) in
     let kok = not-false _ (c .before .before .if3 .left) in
-    let q = sym (k .ok) ∙ kok in
-    check-heard fs _ _ _
-    (record {
-      node = sym (n .ok) ∙ ok;
-      stamp = sym (t .ok) ∙ tok;
-      clock = q;
-      seven = omega (arith, no-more line fs 7 (c .before .before .before .before .before .before .before .before .read-number .result .next) (k .rest) (omega arith), numbers-enough (4294967295 ∷ []) (drop 6 fs) q, length-drop 6 fs);
-    })
-    (n .value ok)
-    (t .value tok)
-    (k .value kok)
+    rw (
+      is-check _ (record {
+        node = sym (n .ok) ∙ ok;
+        stamp = sym (t .ok) ∙ tok;
+        clock = sym (k .ok) ∙ kok;
+        seven = all-there (k .rest) (omega arith) (k .there kok);
+      }),
+      n .value ok,
+      t .value tok,
+      k .value kok,
+    )
 
 pub read-check-spec : {M : Type 1} → statement M
-read-check-spec =
-    tie.close
-    (tie.spec
-    read-node-requires
-    read-stamp-requires
-    read-number-requires
-    returns
-    returns-2
-    returns-3)
+read-check-spec = tie.close (tie.spec (λ c κs. search needs) (λ c κs. search needs) (λ c κs. search needs) returns returns-2 returns-3)

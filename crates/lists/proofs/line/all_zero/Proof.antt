@@ -1,14 +1,7 @@
 -- The words from the place on are zeros exactly if those from w on are.
 -- Assumes nothing.
-use borrow.Author.Needs.{needs}
-use native.Mathlib.Omega.{arith}
-use Prim.Native.Nat.{_-_}
-use mathlib.Core.Path.{_≡_, refl, sym, _∙_}
-use lib.Dec.{eqb}
-use lib.ListN.{length, drop}
-use borrow.Author.Tests.{eq-eqb, ne-eqb}
-use Rattle.units.proofs.Choice.{yes-and, no-and}
-use Rattle.state.specs.Consistent.{zeros}
+use Rattle.units.proofs.Common.{sym, _∙_, _≡_, refl, _-_, arith, eqb, length, drop, eq-eqb, ne-eqb, needs, yes-and, no-and}
+use Rattle.state.proofs.Terms.{zeros}
 use Rattle.state.proofs.Lists.{every-at, every-end}
 use Rattle.lists.proofs.line.all_zero.Statement.{statement}
 use Rattle.lists.proofs.line.all_zero.Tie as tie
@@ -19,26 +12,11 @@ Inv-loop store place w₀ w = zeros (drop place store) ≡ zeros (drop w store)
 abbrev μ-loop : tie.MeasureT-loop
 μ-loop store place w₀ w = length store - w
 
-loop-holds : tie.Need-loop-holds Inv-loop μ-loop
-loop-holds c = refl
-
-mul-if1 : tie.Need-mul-if1 Inv-loop μ-loop
-mul-if1 c = search needs
-
-shared-slice-read-if1 : tie.Need-shared-slice-read-if1 Inv-loop μ-loop
-shared-slice-read-if1 c = search needs
-
 returns : tie.Need-returns Inv-loop μ-loop
 returns c =
     let s = c .before .before .before .before .args .store .now in
     let w = c .before .before .before .loop .w in
     sym (c .before .before .before .loop .inv ∙ every-at (λ x. eqb x 0) s w 0 (omega arith) ∙ no-and _ (ne-eqb _ _ (c .if1 .taken)))
-
-add-w : tie.Need-add-w Inv-loop μ-loop
-add-w c = search needs
-
-loop-less : tie.Need-loop-less Inv-loop μ-loop
-loop-less c = search needs
 
 loop-again : tie.Need-loop-again Inv-loop μ-loop
 loop-again c =
@@ -52,16 +30,5 @@ returns-2 c =
     sym (c .before .loop .inv ∙ every-end (λ x. eqb x 0) s (c .before .loop .w) (omega arith))
 
 pub all-zero-spec : {M : Type 1} → statement M
-all-zero-spec =
-    tie.close
-    (tie.spec
-    Inv-loop
-    μ-loop
-    loop-holds
-    mul-if1
-    shared-slice-read-if1
-    returns
-    add-w
-    loop-less
-    loop-again
-    returns-2)
+all-zero-spec = tie.close (tie.spec Inv-loop μ-loop (λ c. refl) (λ c. search needs) (λ c. search needs) returns (λ c. search needs)
+    (λ c. search needs) loop-again returns-2)

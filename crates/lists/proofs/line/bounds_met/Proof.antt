@@ -1,18 +1,10 @@
 -- No count passes the limit exactly if none does from i on; so charges may be added up.
 -- Assumes nothing.
-use Prim.Native.Nat.{_-_, _≤_, _<_}
-use mathlib.Core.Path.{_≡_, sym, _∙_}
-use mathlib.Core.Bool.{true}
-use mathlib.Core.List.{List}
-use native.Mathlib.Omega.{arith}
-use lib.Dec.{leb}
-use lib.ListN.{length, drop, getD, length-map}
-use borrow.Author.Needs.{needs}
-use borrow.Author.Tests.{le-leb, lt-leb}
+use Rattle.units.proofs.Common.{sym, _∙_, _≡_, true, List, _≤_, _-_, _<_, arith, leb, length, drop, getD, length-map, le-leb, lt-leb, needs}
+use Rattle.units.proofs.Common.{yes-and, no-and}
 use Rattle.units.specs.declared.Words.{Words}
-use Rattle.units.proofs.Choice.{yes-and, no-and}
-use Rattle.meaning.specs.Bench.{full}
-use Rattle.state.specs.Consistent.{counts, bounded}
+use Rattle.meaning.proofs.Terms.{full}
+use Rattle.state.proofs.Terms.{counts, bounded}
 use Rattle.state.proofs.Lists.{every-at, every-end}
 use Rattle.lists.proofs.Charges.{count-at, limited, limit-at}
 use Rattle.lists.proofs.line.bounds_met.Statement.{statement}
@@ -33,15 +25,6 @@ all-in c =
     let n = long (c .before .before) in
     c .before .loop .inv .1 ∙ every-end (λ h. leb h (full .limit)) _ (c .before .loop .i) (omega arith)
 
-loop-holds : tie.Need-loop-holds Inv-loop μ-loop
-loop-holds c = search needs
-
-mul-h : tie.Need-mul-h Inv-loop μ-loop
-mul-h c = search needs
-
-array-copy-out-h : tie.Need-array-copy-out-h Inv-loop μ-loop
-array-copy-out-h c = search needs
-
 returns : tie.Need-returns Inv-loop μ-loop
 unfolding bounded
 returns c =
@@ -50,12 +33,6 @@ returns c =
     let l = c .before .before .before .before .before .loop in
     let h : full .limit < getD (counts hs) (l .i) 0 = omega (arith, count-at hs (l .i)) in
     sym (no-and _ (l .inv .1 ∙ every-at (λ h. leb h (full .limit)) (counts hs) (l .i) 0 (omega arith) ∙ no-and _ (lt-leb _ _ h)))
-
-add-i : tie.Need-add-i Inv-loop μ-loop
-add-i c = search needs
-
-loop-less : tie.Need-loop-less Inv-loop μ-loop
-loop-less c = search needs
 
 loop-again : tie.Need-loop-again Inv-loop μ-loop
 loop-again c =
@@ -76,17 +53,5 @@ unfolding bounded
 returns-2 c = rw (c .before .before .charges .ensures) (sym (yes-and (all-in (c .before .before .before))))
 
 pub bounds-met-spec : {M : Type 1} → statement M
-bounds-met-spec =
-    tie.close
-    (tie.spec
-    Inv-loop
-    μ-loop
-    loop-holds
-    mul-h
-    array-copy-out-h
-    returns
-    add-i
-    loop-less
-    loop-again
-    charges-requires
-    returns-2)
+bounds-met-spec = tie.close (tie.spec Inv-loop μ-loop (λ c. search needs) (λ c. search needs) (λ c. search needs) returns
+    (λ c. search needs) (λ c. search needs) loop-again charges-requires returns-2)

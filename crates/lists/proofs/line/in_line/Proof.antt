@@ -1,17 +1,10 @@
 -- The whole walk is the rest of it: at each node, and at each of its answers.
 -- Assumes nothing.
-use borrow.Author.Needs.{needs}
-use native.Mathlib.Omega.{arith}
-use Prim.Native.Nat.{ℕ, _+_, _-_, _≤_}
-use mathlib.Core.Path.{_≡_, refl, sym, ap, _∙_}
-use mathlib.Core.Logic.{⊎-elim}
-use mathlib.Core.Bool.{true, false, true≢false}
-use mathlib.Core.List.{List}
-use lib.ListN.{length, drop, getD}
-use borrow.Author.Tests.{not-true, not-false}
+use Rattle.units.proofs.Common.{sym, _∙_, _≡_, refl, ap, ⊎-elim, true, false, true≢false, List, ℕ, _≤_, _-_, _+_, arith, length, drop, getD}
+use Rattle.units.proofs.Common.{not-false, not-true, needs}
 use Rattle.units.specs.declared.Words.{Words}
-use Rattle.meaning.specs.Bench.{full}
-use Rattle.state.specs.Consistent.{counts, zeros}
+use Rattle.meaning.proofs.Terms.{full}
+use Rattle.state.proofs.Terms.{counts, zeros}
 use Rattle.state.proofs.Lists.{length-mapped}
 use Rattle.lists.specs.Line.{okAnswer, inLine}
 use Rattle.lists.proofs.Answers.{Lies, lies}
@@ -65,12 +58,6 @@ inside c = lies full _ _ _ (in-order c)
 nodes-holds : tie.Need-nodes-holds Inv-loop μ-loop Inv-nodes μ-nodes
 nodes-holds c = (omega arith, refl, refl)
 
-mul-n : tie.Need-mul-n Inv-loop μ-loop Inv-nodes μ-nodes
-mul-n c = search needs
-
-array-copy-out-n : tie.Need-array-copy-out-n Inv-loop μ-loop Inv-nodes μ-nodes
-array-copy-out-n c = search needs
-
 loop-holds : tie.Need-loop-holds Inv-loop μ-loop Inv-nodes μ-nodes
 loop-holds c =
     let s = c .before .before .before .before in
@@ -83,12 +70,6 @@ loop-holds c =
       go-in full _ (s .args .store .now) (l .i) (l .place) _ _ (l .inv .2) _ (omega arith) (omega arith),
     )
 
-answer-ok-requires : tie.Need-answer-ok-requires Inv-loop μ-loop Inv-nodes μ-nodes
-answer-ok-requires c κs = search needs
-
-mul-place : tie.Need-mul-place Inv-loop μ-loop Inv-nodes μ-nodes
-mul-place c = search (needs, inside c)
-
 shared-slice-read-place : tie.Need-shared-slice-read-place Inv-loop μ-loop Inv-nodes μ-nodes
 shared-slice-read-place c = omega (arith, inside (c .before))
 
@@ -98,12 +79,6 @@ cast-place c = record { fits = omega (arith, c .shared-slice-known2 .given (c .b
 add-place : tie.Need-add-place Inv-loop μ-loop Inv-nodes μ-nodes
 add-place c = record { fits = omega (arith, inside (c .before)) }
 
-add-k : tie.Need-add-k Inv-loop μ-loop Inv-nodes μ-nodes
-add-k c = search needs
-
-loop-less : tie.Need-loop-less Inv-loop μ-loop Inv-nodes μ-nodes
-loop-less c = search needs
-
 loop-again : tie.Need-loop-again Inv-loop μ-loop Inv-nodes μ-nodes
 loop-again c =
     let l = c .before .before .before .before .before in
@@ -111,24 +86,6 @@ loop-again c =
     let o = in-order (c .before) in
     let t = c .before .before .before .if1 .taken in
     (omega arith, omega arith, v .2, go-on full _ (words l) (index l) (l .loop .place) _ (l .loop .k) _ _ _ _ (v .3) t (v .1) o)
-
-mul-h : tie.Need-mul-h Inv-loop μ-loop Inv-nodes μ-nodes
-mul-h c = search needs
-
-array-copy-out-h : tie.Need-array-copy-out-h Inv-loop μ-loop Inv-nodes μ-nodes
-array-copy-out-h c = search needs
-
-cast-if3 : tie.Need-cast-if3 Inv-loop μ-loop Inv-nodes μ-nodes
-cast-if3 c = search needs
-
-sub-if3 : tie.Need-sub-if3 Inv-loop μ-loop Inv-nodes μ-nodes
-sub-if3 c = search needs
-
-add-i : tie.Need-add-i Inv-loop μ-loop Inv-nodes μ-nodes
-add-i c = search needs
-
-nodes-less : tie.Need-nodes-less Inv-loop μ-loop Inv-nodes μ-nodes
-nodes-less c = search needs
 
 nodes-again : tie.Need-nodes-again Inv-loop μ-loop Inv-nodes μ-nodes
 nodes-again c =
@@ -151,9 +108,6 @@ returns c =
     v)
     (c .before .nodes-test .came))
 
-all-zero-requires : tie.Need-all-zero-requires Inv-loop μ-loop Inv-nodes μ-nodes
-all-zero-requires c κs = search needs
-
 returns-2 : tie.Need-returns-2 Inv-loop μ-loop Inv-nodes μ-nodes
 returns-2 c =
     let l = c .before .before .nodes-test in
@@ -170,32 +124,7 @@ returns-2 c =
     (l .came)
 
 pub in-line-spec : {M : Type 1} → statement M
-in-line-spec =
-    tie.close
-    (tie.spec
-    Inv-loop
-    μ-loop
-    Inv-nodes
-    μ-nodes
-    nodes-holds
-    mul-n
-    array-copy-out-n
-    loop-holds
-    answer-ok-requires
-    mul-place
-    shared-slice-read-place
-    cast-place
-    add-place
-    add-k
-    loop-less
-    loop-again
-    mul-h
-    array-copy-out-h
-    cast-if3
-    sub-if3
-    add-i
-    nodes-less
-    nodes-again
-    returns
-    all-zero-requires
-    returns-2)
+in-line-spec = tie.close (tie.spec Inv-loop μ-loop Inv-nodes μ-nodes nodes-holds (λ c. search needs) (λ c. search needs) loop-holds
+    (λ c κs. search needs) (λ c. search (needs, inside c)) shared-slice-read-place cast-place add-place (λ c. search needs)
+    (λ c. search needs) loop-again (λ c. search needs) (λ c. search needs) (λ c. search needs) (λ c. search needs) (λ c. search needs)
+    (λ c. search needs) nodes-again returns (λ c κs. search needs) returns-2)

@@ -1,16 +1,10 @@
 -- sum is the charges of the first i nodes.
 -- Assumes nothing.
-use Prim.Native.Nat.{ℕ, _*_, _-_, _≤_, _<_, max}
-use mathlib.Core.Path.{_≡_, ap, _∙_}
-use mathlib.Core.List.{List}
-use native.Mathlib.Numerals.{add-one}
-use native.Mathlib.Omega.{arith}
-use lib.ListN.{length, take, getD, length-map}
-use lib.Seq.{take-all}
-use borrow.Author.Needs.{needs}
+use Rattle.units.proofs.Common.{_∙_, _≡_, ap, List, ℕ, _≤_, _-_, _<_, _*_, max, add-one, arith, length, getD, take, length-map, take-all}
+use Rattle.units.proofs.Common.{needs}
 use Rattle.units.specs.declared.Words.{Words}
-use Rattle.meaning.specs.Bench.{full}
-use Rattle.state.specs.Consistent.{counts, chargesOf}
+use Rattle.meaning.proofs.Terms.{full}
+use Rattle.state.proofs.Terms.{counts, chargesOf}
 use Rattle.lists.proofs.Charges.{count-at, charges-more}
 use Rattle.lists.proofs.room.charges.Statement.{statement}
 use Rattle.lists.proofs.room.charges.Tie as tie
@@ -33,23 +27,8 @@ loop-holds : tie.Need-loop-holds Inv-loop μ-loop
 unfolding chargesOf
 loop-holds c = search needs
 
-mul-h : tie.Need-mul-h Inv-loop μ-loop
-mul-h c = search needs
-
-array-copy-out-h : tie.Need-array-copy-out-h Inv-loop μ-loop
-array-copy-out-h c = search needs
-
-charge-requires : tie.Need-charge-requires Inv-loop μ-loop
-charge-requires c κs = search needs
-
 add-sum : tie.Need-add-sum Inv-loop μ-loop
 add-sum c = let a = added (c .before) in record { fits = omega arith }
-
-add-i : tie.Need-add-i Inv-loop μ-loop
-add-i c = search needs
-
-loop-less : tie.Need-loop-less Inv-loop μ-loop
-loop-less c = search needs
 
 loop-again : tie.Need-loop-again Inv-loop μ-loop
 loop-again c =
@@ -69,17 +48,5 @@ returns c =
     ∙ ap (chargesOf (full .share)) (take-all 17 (counts hs) (rw length-map (omega arith)))
 
 pub charges-spec : {M : Type 1} → statement M
-charges-spec =
-    tie.close
-    (tie.spec
-    Inv-loop
-    μ-loop
-    loop-holds
-    mul-h
-    array-copy-out-h
-    charge-requires
-    add-sum
-    add-i
-    loop-less
-    loop-again
-    returns)
+charges-spec = tie.close (tie.spec Inv-loop μ-loop loop-holds (λ c. search needs) (λ c. search needs) (λ c κs. search needs) add-sum
+    (λ c. search needs) (λ c. search needs) loop-again returns)

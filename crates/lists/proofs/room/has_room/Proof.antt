@@ -1,13 +1,8 @@
 -- Charges may be added up, since no node holds more than the limit.
 -- Assumes nothing.
-use Prim.Native.Nat.{ℕ, _+_, _≤_, _<_}
-use mathlib.Core.Path.{_≡_, sym, _∙_}
-use mathlib.Core.List.{List}
-use native.Mathlib.Omega.{arith}
-use lib.ListN.{length, getD, set}
-use borrow.Author.Needs.{needs}
-use Rattle.meaning.specs.Bench.{full}
-use Rattle.state.specs.Consistent.{counts, chargesOf}
+use Rattle.units.proofs.Common.{sym, _∙_, _≡_, List, ℕ, _≤_, _+_, _<_, arith, length, getD, set, needs}
+use Rattle.meaning.proofs.Terms.{full}
+use Rattle.state.proofs.Terms.{counts, chargesOf}
 use Rattle.state.proofs.Lists.{map-set}
 use Rattle.lists.proofs.Charges.{count-at, length-words, bounded-at, set-within, no-room, room-by-charges}
 use Rattle.lists.proofs.room.has_room.Statement.{statement}
@@ -24,12 +19,6 @@ long c = let n : length (c .args .held) ≡ 17 = search needs in length-words (c
 held-few : (c : tie.Start) → (i : ℕ) → i < 17 → getD (holds c) i 0 ≤ full .limit
 held-few c i h = bounded-at full (holds c) (c .pre .0) i (omega (arith, long c))
 
-mul-h : tie.Need-mul-h
-mul-h c = search needs
-
-array-copy-out-h : tie.Need-array-copy-out-h
-array-copy-out-h c = search needs
-
 sub-if1 : tie.Need-sub-if1
 sub-if1 c =
     let s = c .before .before .before in
@@ -40,15 +29,6 @@ returns c =
     let s = c .before .before .before .before .before in
     let a = s .args in
     sym (no-room full (holds s) (a .i) (a .new .0) (omega (arith, count-at (a .held) (a .i))))
-
-add-t10 : tie.Need-add-t10
-add-t10 c = search needs
-
-mul-hs : tie.Need-mul-hs
-mul-hs c = search needs
-
-array-set-from-hs : tie.Need-array-set-from-hs
-array-set-from-hs c = search needs
 
 charges-requires : tie.Need-charges-requires
 charges-requires c κs =
@@ -74,15 +54,5 @@ returns-2 c =
     rw r (sym (room-by-charges full hs (a .i) (a .new .0) (omega arith)))
 
 pub has-room-spec : {M : Type 1} → statement M
-has-room-spec =
-    tie.close
-    (tie.spec
-    mul-h
-    array-copy-out-h
-    sub-if1
-    returns
-    add-t10
-    mul-hs
-    array-set-from-hs
-    charges-requires
-    returns-2)
+has-room-spec = tie.close (tie.spec (λ c. search needs) (λ c. search needs) sub-if1 returns (λ c. search needs) (λ c. search needs)
+    (λ c. search needs) charges-requires returns-2)

@@ -1,13 +1,8 @@
 -- sum is the words of the first k nodes.
 -- Assumes nothing.
-use Prim.Native.Nat.{_*_, _-_, _≤_, _<_}
-use mathlib.Core.Path.{_≡_, ap, _∙_}
-use mathlib.Core.List.{List}
-use native.Mathlib.Omega.{arith}
-use lib.ListN.{length, length-map}
-use borrow.Author.Needs.{needs}
+use Rattle.units.proofs.Common.{_∙_, _≡_, ap, List, _≤_, _-_, _<_, _*_, arith, length, length-map, needs}
 use Rattle.units.specs.declared.Words.{Words}
-use Rattle.state.specs.Consistent.{counts}
+use Rattle.state.proofs.Terms.{counts}
 use Rattle.lists.specs.Room.{sum, placeOf}
 use Rattle.lists.proofs.Charges.{count-at}
 use Rattle.lists.proofs.Places.{place-suc}
@@ -24,24 +19,6 @@ loop-holds : tie.Need-loop-holds Inv-loop μ-loop
 unfolding sum
 loop-holds c = search needs
 
-mul-h : tie.Need-mul-h Inv-loop μ-loop
-mul-h c = search needs
-
-array-copy-out-h : tie.Need-array-copy-out-h Inv-loop μ-loop
-array-copy-out-h c = search needs
-
-cast-sum : tie.Need-cast-sum Inv-loop μ-loop
-cast-sum c = search needs
-
-add-sum : tie.Need-add-sum Inv-loop μ-loop
-add-sum c = search needs
-
-add-k : tie.Need-add-k Inv-loop μ-loop
-add-k c = search needs
-
-loop-less : tie.Need-loop-less Inv-loop μ-loop
-loop-less c = search needs
-
 loop-again : tie.Need-loop-again Inv-loop μ-loop
 loop-again c =
     let hs : List Words = c .before .before .before .before .args .t1 in
@@ -56,17 +33,5 @@ returns c =
     c .before .loop .inv .2 ∙ ap (placeOf (counts (c .before .before .args .t1))) e
 
 pub place-of-spec : {M : Type 1} → statement M
-place-of-spec =
-    tie.close
-    (tie.spec
-    Inv-loop
-    μ-loop
-    loop-holds
-    mul-h
-    array-copy-out-h
-    cast-sum
-    add-sum
-    add-k
-    loop-less
-    loop-again
-    returns)
+place-of-spec = tie.close (tie.spec Inv-loop μ-loop loop-holds (λ c. search needs) (λ c. search needs) (λ c. search needs)
+    (λ c. search needs) (λ c. search needs) (λ c. search needs) loop-again returns)

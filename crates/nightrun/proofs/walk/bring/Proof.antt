@@ -1,15 +1,7 @@
 -- The loop's invariant: the lines from here on are the lines from the start on. The measure is how many plaques are to come.
-use Prim.Native.Nat.{ℕ, _+_, _-_, _≤_}
-use mathlib.Core.Path.{_≡_, refl, sym, ap, _∙_}
-use mathlib.Core.List.{List}
-use native.Mathlib.Omega.{arith}
-use lib.ListN.{length, drop, length-drop}
-use denote.Ref.{now}
-use borrow.Author.Needs.{needs}
-use Rattle.meaning.specs.Bench.{full}
-use Rattle.meaning.specs.Gateway.{Gateway}
-use Rattle.state.specs.Machine.{machine, meaning}
-use Rattle.state.specs.Consistent.{unfit}
+use Rattle.units.proofs.Common.{sym, _∙_, _≡_, refl, ap, List, ℕ, _≤_, _-_, _+_, arith, length, drop, length-drop, now, needs}
+use Rattle.meaning.proofs.Terms.{full, Gateway}
+use Rattle.state.proofs.Terms.{machine, meaning, unfit}
 use Rattle.listing.specs.Listing.{plaqueLines}
 use Rattle.runfile.proofs.Records.{PlaqueRead, plaque-read, plaque-unread, count-read, count-unread}
 use Rattle.nightrun.proofs.Records.{plaque-on, plaque-off, count-off}
@@ -104,11 +96,12 @@ returns-3 c =
     (stands-counted (l .loop .at) (omega arith) (r .whole) (r .said) (start l .pre .0 .1) (l .loop .inv .2))
 
 pub bring-spec : {M : Type 1} → statement M
-bring-spec =
-    tie.close
-    (tie.spec Inv-loop μ-loop loop-holds (λ c κs. search needs) (λ c. search needs) (λ c. search needs) (λ c κs. search needs)
-    (λ c. c .before .before .before .before .before .loop .inv .1) returns arrive-at-requires add-at (λ c. search needs) add-at-2 (λ c.
-    omega arith) (λ c. omega arith)
-    loop-again (λ c κs. search needs) (λ c. search needs) (λ c. search needs) (λ c κs. search needs) (λ c. c .before .before .before
-    .before .before .loop .inv .1)
-    returns-2 (λ c. search needs) (λ c. c .before .before .before .before .before .loop .inv .1) returns-3)
+bring-spec = tie.close (tie.spec Inv-loop μ-loop loop-holds (λ c κs. search needs) (λ c. search needs) (λ c. search needs)
+    (λ c κs. search needs)
+    (λ c. c .before .before .before .before .before .loop .inv .1)
+    returns arrive-at-requires add-at (λ c. search needs) add-at-2 (λ c. omega arith) (λ c. omega arith) loop-again
+    (λ c κs. search needs) (λ c. search needs) (λ c. search needs) (λ c κs. search needs)
+    (λ c. c .before .before .before .before .before .loop .inv .1)
+    returns-2 (λ c. search needs)
+    (λ c. c .before .before .before .before .before .loop .inv .1)
+    returns-3)

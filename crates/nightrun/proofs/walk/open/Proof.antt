@@ -1,13 +1,7 @@
 -- A file that is too long or has no count stands for the line `broken`; any other stands for what `bring` makes of it.
-use Prim.Native.Nat.{ℕ}
-use mathlib.Core.Path.{sym, _∙_}
-use mathlib.Core.List.{List}
-use native.Mathlib.Omega.{arith}
-use denote.Ref.{now}
-use borrow.Author.Needs.{needs}
-use Rattle.meaning.specs.Bench.{full}
-use Rattle.meaning.specs.Gateway.{Gateway}
-use Rattle.state.specs.Machine.{machine, meaning}
+use Rattle.units.proofs.Common.{sym, _∙_, List, ℕ, arith, now, needs}
+use Rattle.meaning.proofs.Terms.{full, Gateway}
+use Rattle.state.proofs.Terms.{machine, meaning}
 use Rattle.runfile.proofs.Records.{CountRead, count-read, count-unread}
 use Rattle.nightrun.proofs.Records.{too-long, no-plaques, begun}
 use Rattle.nightrun.proofs.Walking.{stands-as, stands-broken}
@@ -24,33 +18,20 @@ file p = now (p .before .before .before .before .before .before .before .args .f
 read : (p : tie.After-count) → CountRead (file p) (p .count .given .0 .0)
 read p = count-read (file p) (sym (p .count .given .1) ∙ p .before .before .read-count .ensures)
 
-returns : tie.Need-returns
-returns c =
-    let s = c .before .before .before .before .before in
-    stands-broken (too-long full (gateway s) (now (s .args .file)) (omega arith)) (s .pre) _ (c .broken .ensures)
-
-returns-2 : tie.Need-returns-2
-returns-2 c =
-    let s = c .before .before .before .before .before .before .before .before in
-    let e = count-unread (now (s .args .file)) (sym (c .before .enum-told .given .1) ∙ c .before .before .before .read-count .ensures) in
-    stands-broken (no-plaques full (gateway s) (now (s .args .file)) (omega arith) e) (s .pre) _ (c .broken2 .ensures)
-
-bring-requires : tie.Need-bring-requires
-bring-requires c κs = (
-  (read (c .before .before) .there, omega arith),
-  c .before .before .before .before .before .before .before .before
-      .before .pre,
-)
-
-returns-3 : tie.Need-returns-3
-returns-3 c =
-    let n = c .before .before .before .before .before in
-    let r = read n in
-    stands-as (begun full (gateway (n .before .before .before .before .before .before .before)) (file n) _ (omega arith) (r .whole) (r
-    .said)) (c .before .before .bring .ensures)
-
 pub open-spec : {M : Type 1} → statement M
-open-spec =
-    tie.close
-    (tie.spec (λ c κs. search needs) returns (λ c κs. search needs) (λ c. search needs) (λ c. search needs) (λ c κs. search needs)
-    returns-2 bring-requires (λ c. search needs) returns-3)
+open-spec = tie.close (tie.spec (λ c κs. search needs)
+    (λ c. let s = c .before .before .before .before .before in
+    stands-broken (too-long full (gateway s) (now (s .args .file)) (omega arith)) (s .pre) _ (c .broken .ensures))
+    (λ c κs. search needs) (λ c. search needs) (λ c. search needs) (λ c κs. search needs)
+    (λ c. let s = c .before .before .before .before .before .before .before .before in
+    let e = count-unread (now (s .args .file)) (sym (c .before .enum-told .given .1) ∙
+    c .before .before .before .read-count .ensures) in
+    stands-broken (no-plaques full (gateway s) (now (s .args .file)) (omega arith) e) (s .pre) _ (c .broken2 .ensures))
+    (λ c κs. (
+      (read (c .before .before) .there, omega arith),
+      c .before .before .before .before .before .before .before .before .before .pre,
+    ))
+    (λ c. search needs)
+    (λ c. let n = c .before .before .before .before .before in let r = read n in
+    stands-as (begun full (gateway (n .before .before .before .before .before .before .before)) (file n) _ (omega arith) (r .whole)
+    (r .said)) (c .before .before .bring .ensures)))

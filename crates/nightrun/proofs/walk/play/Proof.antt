@@ -1,15 +1,8 @@
 -- The loop's invariant is `Along`: what is still to come makes the whole text. Each way around writes one line of it, and leaves a
 -- consistent machine that means the gateway after that command. The measure is how many commands are to come.
-use Prim.Native.Nat.{ℕ, _+_, _-_, _≤_, _<_}
-use mathlib.Core.Path.{_≡_, refl, sym, _∙_}
-use mathlib.Core.Bool.{true}
-use mathlib.Core.Logic.{⊎-elim}
-use native.Mathlib.Omega.{arith}
-use lib.ListN.{length, drop, length-replicate}
-use denote.Ref.{now}
-use borrow.Author.Needs.{needs}
-use Rattle.meaning.specs.Bench.{full, isReader}
-use Rattle.state.specs.Machine.{Machine, machine, meaning}
+use Rattle.units.proofs.Common.{sym, _∙_, _≡_, refl, ⊎-elim, true, ℕ, _≤_, _-_, _+_, _<_, arith, length, drop, length-replicate, now, needs}
+use Rattle.meaning.proofs.Terms.{full, isReader}
+use Rattle.state.proofs.Terms.{Machine, machine, meaning}
 use Rattle.promise.proofs.Parts.{parts}
 use Rattle.obey.proofs.Taking.{first, inside, seatable, houseable}
 use Rattle.text.proofs.Writing.{put-length}
@@ -72,76 +65,6 @@ index p =
     let l = h .before .before .before .before .before .before .before in
     inside (whole l) (l .loop .inv .1 .sound) (h .hear .result .what .node) _ (is p) refl
 
--- ---- the needs
-loop-holds : tie.Need-loop-holds Inv-loop μ-loop
-loop-holds c = let s = c .before .before .before .before in (length-replicate {A = ℕ} 134 0, along-begun (s .pre .0) (s .pre .1))
-
-put-broken-requires : tie.Need-put-broken-requires Inv-loop μ-loop
-put-broken-requires c κs = omega (arith, room (c .before .before .before .before .before))
-
-returns : tie.Need-returns Inv-loop μ-loop
-returns c =
-    let p = c .before .before in
-    let e = p .before .before in
-    let r = e .before .before in
-    let l = r .before .before in
-    along-short (l .loop .inv .1) (start l .pre .0) (r .before .loop-test .taken)
-    (command-unread (drop (l .loop .at) (now (start l .args .file))) (sym (e .enum-told .given .1) ∙ r .read-command .ensures))
-    (p .put-broken .ensures)
-
-put-refused-requires : tie.Need-put-refused-requires Inv-loop μ-loop
-put-refused-requires c κs =
-    omega (
-      arith,
-      room (c .before .before .before .before .before .before .before .before .before .before .before .before .before .before
-          .before),
-    )
-
-hub-turn-requires : tie.Need-hub-turn-requires Inv-loop μ-loop
-hub-turn-requires c κs =
-    let t = c .before .before .before .before .before in
-    let i = t .before .before in
-    let h = i .before .before .before .before .before .before .before in
-    let l = h .before .before .before .before .before .before .before in
-    ((accepts-here (h .hear .ensures) (i .if1 .left), t .if2 .taken, houseable (whole l) (l .loop .inv .1 .sound)), room l)
-
-sub-i : tie.Need-sub-i Inv-loop μ-loop
-sub-i c =
-    let t = c .before in
-    let h = t .before .before .before .before .before .before .before .before .before in
-    let l = h .before .before .before .before .before .before .before in
-    first (whole l) (l .loop .inv .1 .sound) (h .hear .result .what .node) _ (is t) refl
-
-reader-turn-requires : tie.Need-reader-turn-requires Inv-loop μ-loop
-reader-turn-requires c κs =
-    let t = c .before .before .before .before .before .before .before in
-    let i = t .before .before in
-    let h = i .before .before .before .before .before .before .before in
-    let l = h .before .before .before .before .before .before .before in (
-      (
-        accepts-here (h .hear .ensures) (i .if1 .left),
-        seatable (whole l) (l .loop .inv .1 .sound) (h .hear .result .what .node) _ (is t) refl,
-      ),
-      room l,
-    )
-
-add-at : tie.Need-add-at Inv-loop μ-loop
-add-at c =
-    let z = c .before .before .before .before .before .before .before .before .before .before in
-    let h = there z in
-    record { fits = omega (arith, h .inside, start (turn z) .pre .0 .short) }
-
-bytes-requires : tie.Need-bytes-requires Inv-loop μ-loop
-bytes-requires c κs =
-    let h = there (c .before .before .before .before .before .before .before .before .before .before) in
-    omega (arith, h .facts .high)
-
-add-at-2 : tie.Need-add-at-2 Inv-loop μ-loop
-add-at-2 c =
-    let z = c .before .before .before .before .before .before .before .before .before .before .before .before in
-    let h = there z in
-    record { fits = omega (arith, h .inside, c .before .bytes .ensures, start (turn z) .pre .0 .short) }
-
 loop-again : tie.Need-loop-again Inv-loop μ-loop
 loop-again c =
     let y = c .before .before .before .before .before .before .before .before .before in
@@ -158,9 +81,6 @@ loop-again c =
           (played-reader h (whole l) (v .sound) (w .10 .result) (reader-here h (w .0 .left) (w .2 .left)) (w .10 .ensures))))
           (c .before .before .if1 .came)),
     )
-
-put-broken-requires-2 : tie.Need-put-broken-requires-2 Inv-loop μ-loop
-put-broken-requires-2 c κs = omega (arith, room (c .before .before .before))
 
 returns-2 : tie.Need-returns-2 Inv-loop μ-loop
 returns-2 c =
@@ -179,33 +99,71 @@ returns-3 c =
     along-clean (l .loop .inv .1) (start l .pre .0) (omega arith) (omega arith)
 
 pub play-spec : {M : Type 1} → statement M
-play-spec =
-    tie.close
-    (tie.spec Inv-loop μ-loop loop-holds (λ c κs. search needs) (λ c. search needs) (λ c. search needs) put-broken-requires
+play-spec = tie.close (tie.spec Inv-loop μ-loop
+    (λ c. let s = c .before .before .before .before in (length-replicate {A = ℕ} 134 0, along-begun (s .pre .0) (s .pre .1)))
+    (λ c κs. search needs) (λ c. search needs) (λ c. search needs)
+    (λ c κs. omega (arith, room (c .before .before .before .before .before)))
     (λ c. same-store (c .before .before .before .before .before .before .before .before))
     (λ c. same-plaques (c .before .before .before .before .before .before .before .before))
-    (λ c. put-length (c .before .before .put-broken .ensures) ∙ c .before .before .before .before .before .before .before .before .loop
-    .inv .1 .same) returns
+    (λ c. put-length (c .before .before .put-broken .ensures) ∙
+    c .before .before .before .before .before .before .before .before .loop .inv .1 .same)
+    (λ c. let e = c .before .before .before .before in let r = e .before .before in let l = r .before .before in
+    along-short (l .loop .inv .1) (start l .pre .0) (r .before .loop-test .taken)
+    (command-unread (drop (l .loop .at) (now (start l .args .file))) (sym (e .enum-told .given .1) ∙ r .read-command .ensures))
+    (c .before .before .put-broken .ensures))
     (λ c. sym (c .before .before .before .before .before .before .loop .inv .0))
-    (λ c κs. let z = c .before .before in (here z, turn z .loop .inv .0)) (λ c. search needs) put-refused-requires
-    (λ c. let h = c .before .before .before .before .before .before .before .before .before .before .before in packet-inside (h .hear
-    .ensures) (here (h .before .before .before)))
-    (λ c. let h = c .before .before .before .before .before .before .before .before .before .before .before .before in packet-long (h .hear
-    .ensures) (here (h .before .before .before))) hub-turn-requires sub-i
+    (λ c κs. let z = c .before .before in (here z, turn z .loop .inv .0))
+    (λ c. search needs)
+    (λ c κs. omega (
+      arith,
+      room
+          (c .before .before .before .before .before .before .before .before .before .before .before .before .before .before .before),
+    ))
+    (λ c. let h = c .before .before .before .before .before .before .before .before .before .before .before in
+    packet-inside (h .hear .ensures) (here (h .before .before .before)))
+    (λ c. let h = c .before .before .before .before .before .before .before .before .before .before .before .before in
+    packet-long (h .hear .ensures) (here (h .before .before .before)))
+    (λ c κs. let t = c .before .before .before .before .before in let i = t .before .before in
+    let h = i .before .before .before .before .before .before .before in
+    let l = h .before .before .before .before .before .before .before in
+    ((accepts-here (h .hear .ensures) (i .if1 .left), t .if2 .taken, houseable (whole l) (l .loop .inv .1 .sound)), room l))
+    (λ c. let h = c .before .before .before .before .before .before .before .before .before .before in
+    let l = h .before .before .before .before .before .before .before in
+    first (whole l) (l .loop .inv .1 .sound) (h .hear .result .what .node) _ (is (c .before)) refl)
     (λ c. search needs) (λ c. search needs) (λ c. let i = index (c .before) in omega arith) (λ c. search needs)
     (λ c. index (c .before .before))
-    (λ c. let h = c .before .before .before .before .before .before .before .before .before .before .before .before in packet-inside (h
-    .hear .ensures) (here (h .before .before .before)))
-    (λ c. let h = c .before .before .before .before .before .before .before .before .before .before .before .before .before in packet-long
-    (h .hear .ensures) (here (h .before .before .before))) reader-turn-requires
-    (λ c. search needs) (λ c. let i = index (c .before .before .before .before .before .before .before .before .before .before .before
-    .before .before .before .before .before .before .before) in omega arith) (λ c. search needs)
-    (λ c. index (c .before .before .before .before .before .before .before .before .before .before .before .before .before .before .before
-    .before .before .before)) add-at bytes-requires (λ c. search needs) add-at-2
-    (λ c. search needs) (λ c. let f = c .before .before .before .before .before .before .before .before .before .before .before .before
-    .before .before .before .loop-test .taken in omega arith) loop-again put-broken-requires-2
+    (λ c. let h = c .before .before .before .before .before .before .before .before .before .before .before .before in
+    packet-inside (h .hear .ensures) (here (h .before .before .before)))
+    (λ c. let h = c .before .before .before .before .before .before .before .before .before .before .before .before .before in
+    packet-long (h .hear .ensures) (here (h .before .before .before)))
+    (λ c κs. let t = c .before .before .before .before .before .before .before in let i = t .before .before in
+    let h = i .before .before .before .before .before .before .before in
+    let l = h .before .before .before .before .before .before .before in (
+      (
+        accepts-here (h .hear .ensures) (i .if1 .left),
+        seatable (whole l) (l .loop .inv .1 .sound) (h .hear .result .what .node) _
+            (is t) refl,
+      ),
+      room l,
+    ))
+    (λ c. search needs)
+    (λ c. let p = c .before .before .before .before .before .before .before .before .before in
+    let i = index (p .before .before .before .before .before .before .before .before .before) in omega arith)
+    (λ c. search needs)
+    (λ c. let p = c .before .before .before .before .before .before .before .before .before in
+    index (p .before .before .before .before .before .before .before .before .before))
+    (λ c. let z = c .before .before .before .before .before .before .before .before .before .before in let h = there z in
+    record { fits = omega (arith, h .inside, start (turn z) .pre .0 .short) })
+    (λ c κs. let h = there (c .before .before .before .before .before .before .before .before .before .before) in
+    omega (arith, h .facts .high))
+    (λ c. search needs)
+    (λ c. let z = c .before .before .before .before .before .before .before .before .before .before .before .before in
+    let h = there z in record { fits = omega (arith, h .inside, c .before .bytes .ensures, start (turn z) .pre .0 .short) })
+    (λ c. search needs)
+    (λ c. let p = c .before .before .before .before .before .before .before .before in
+    let f = p .before .before .before .before .before .before .before .loop-test .taken in omega arith)
+    loop-again (λ c κs. omega (arith, room (c .before .before .before)))
     (λ c. same-store (c .before .before .before .before .before .before))
     (λ c. same-plaques (c .before .before .before .before .before .before))
     (λ c. put-length (c .before .before .put-broken2 .ensures) ∙ c .before .before .before .before .before .before .loop .inv .1 .same)
-    returns-2
-    (λ c. same-store (c .before .before)) (λ c. same-plaques (c .before .before)) (λ c. search needs) returns-3)
+    returns-2 (λ c. same-store (c .before .before)) (λ c. same-plaques (c .before .before)) (λ c. search needs) returns-3)

@@ -1,7 +1,6 @@
 -- The record is whole, so its five stamp bytes stand in the file; the definition takes them at the front of what is left.
-use denote.Ref.{now}
+use Rattle.units.proofs.Common.{now, needs}
 use Rattle.nightrun.proofs.Walking.{stamp-is}
-use borrow.Author.Needs.{needs}
 use Rattle.nightrun.proofs.walk.stamp_at.Statement.{statement}
 use Rattle.nightrun.proofs.walk.stamp_at.Tie as tie
 
@@ -9,7 +8,5 @@ returns : tie.Need-returns
 returns c = stamp-is (now (c .before .before .before .before .before .args .file)) (c .before .before .before .before .before .args .at)
 
 pub stamp-at-spec : {M : Type 1} → statement M
-stamp-at-spec =
-    tie.close
-    (tie.spec (λ c. search needs) (λ c. search needs) (λ c. search needs) (λ c. search needs) (λ c. search needs) (λ c. search needs)
-    (λ c. search needs) (λ c. search needs) (λ c. search needs) returns)
+stamp-at-spec = tie.close (tie.spec (λ c. search needs) (λ c. search needs) (λ c. search needs) (λ c. search needs) (λ c. search needs)
+    (λ c. search needs) (λ c. search needs) (λ c. search needs) (λ c. search needs) returns)

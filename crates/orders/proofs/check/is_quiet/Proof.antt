@@ -1,24 +1,12 @@
-use mathlib.Core.Logic.{⊎-elim}
-use mathlib.Core.Path.{_∙_}
-use borrow.Author.Tests.{not-true, not-false}
+-- Quiet for want of a plaque or of continuous reading, else where the report would repeat the last one (`Looking`).
+use Rattle.units.proofs.Common.{_∙_, ⊎-elim, not-false, not-true, needs}
 use Rattle.orders.proofs.Looking.{quiet-absent, quiet-off, quiet-rest}
-use borrow.Author.Needs.{needs}
 use Rattle.orders.proofs.check.is_quiet.Statement.{statement}
 use Rattle.orders.proofs.check.is_quiet.Tie as tie
 
-returns : tie.Need-returns
-returns c =
-    let s = c .before .before .before .before in
-    ⊎-elim
-    (λ w. quiet-absent (s .args .x) (s .args .clock) (not-true _ (w .taken)))
-    (λ w. quiet-off (s .args .x) (s .args .clock) (w .1 .taken))
-    (c .if1 .came)
-
-returns-2 : tie.Need-returns-2
-returns-2 c =
-    let f = c .before .before .before in
-    let s = f .before .before .before .before .before in
-    c .repeated .ensures ∙ quiet-rest (s .args .x) (s .args .clock) (not-false _ (f .before .if1 .left)) (f .if2 .left)
-
 pub is-quiet-spec : {M : Type 1} → statement M
-is-quiet-spec = tie.close (tie.spec returns (λ c κs. search needs) returns-2)
+is-quiet-spec = tie.close (tie.spec
+    (λ c. ⊎-elim (λ w. quiet-absent _ _ (not-true _ (w .taken))) (λ w. quiet-off _ _ (w .1 .taken)) (c .if1 .came))
+    (λ c κs. search needs)
+    (λ c. c .repeated .ensures ∙ quiet-rest _ _ (not-false _ (c .before .before .before .before .if1 .left))
+    (c .before .before .before .if2 .left)))

@@ -1,9 +1,8 @@
-use mathlib.Core.Path.{sym, ap}
-use lib.Dec.{lit≤}
-use borrow.Author.Tests.{not-true, not-false}
+-- Each command on a plaque is served by its own function, whose promise is that of the definition for its kind.
+use Rattle.units.proofs.Common.{sym, ap, lit≤, not-false, not-true, needs}
 use Rattle.meaning.specs.declared.table.Kind.the-variants as K
-use Rattle.orders.proofs.Serving.{sayable, not-found-sayable, id-bytes, id-sayable, servable-as, as-kind, none-due, id-due, search-due}
-use borrow.Author.Needs.{needs}
+use Rattle.orders.proofs.Serving.{sayable, not-found-sayable, id-bytes, id-sayable, servable-as, as-kind, none-due, id-due}
+use Rattle.orders.proofs.Serving.{search-due}
 use Rattle.orders.proofs.serve.on_plaque.Statement.{statement}
 use Rattle.orders.proofs.serve.on_plaque.Tie as tie
 
@@ -95,37 +94,8 @@ returns-6 c =
     (g .good3 .ensures) (c .before .before .before .say3 .ensures) (c .due3 .ensures))
 
 pub on-plaque-spec : {M : Type 1} → statement M
-on-plaque-spec =
-    tie.close
-    (tie.spec
-    (λ c. search needs)
-    say-requires
-    (λ c κs. search needs)
-    (λ c. search needs)
-    returns
-    (λ c. search needs)
-    fill-requires
-    (λ c. search needs)
-    read-requires
-    (λ c. search needs)
-    write-requires
-    (λ c. search needs)
-    (λ c κs. search needs)
-    slice-aggregate-say-2
-    say-requires-2
-    (λ c κs. search needs)
-    (λ c. search needs)
-    (λ c κs. search needs)
-    (λ c. search needs)
-    say-requires-3
-    (λ c κs. search needs)
-    (λ c. search needs)
-    returns-2
-    (λ c. search needs)
-    returns-3
-    (λ c. search needs)
-    returns-4
-    (λ c. search needs)
-    returns-5
-    (λ c. search needs)
-    returns-6)
+on-plaque-spec = tie.close (tie.spec (λ c. search needs) say-requires (λ c κs. search needs) (λ c. search needs) returns
+    (λ c. search needs) fill-requires (λ c. search needs) read-requires (λ c. search needs) write-requires (λ c. search needs)
+    (λ c κs. search needs) slice-aggregate-say-2 say-requires-2 (λ c κs. search needs) (λ c. search needs) (λ c κs. search needs)
+    (λ c. search needs) say-requires-3 (λ c κs. search needs) (λ c. search needs) returns-2 (λ c. search needs) returns-3
+    (λ c. search needs) returns-4 (λ c. search needs) returns-5 (λ c. search needs) returns-6)

@@ -1,14 +1,8 @@
 -- The words of all lists are counted exactly if those from node i on are.
 -- Assumes nothing.
-use Prim.Native.Nat.{_-_, _≤_}
-use mathlib.Core.Path.{_≡_, sym, ap, subst, _∙_}
-use native.Mathlib.Omega.{arith}
-use lib.ListN.{length, drop, getD}
-use borrow.Author.Needs.{needs}
-use borrow.Author.Tests.{not-true, not-false}
-use Rattle.units.specs.Count.{every}
-use Rattle.units.proofs.Choice.{yes-and, no-and}
-use Rattle.meaning.specs.Bench.{full}
+use Rattle.units.proofs.Common.{sym, _∙_, _≡_, ap, subst, _≤_, _-_, arith, length, drop, getD, not-false, not-true, needs, every, yes-and}
+use Rattle.units.proofs.Common.{no-and}
+use Rattle.meaning.proofs.Terms.{full}
 use Rattle.placed.specs.Consistent.{counted}
 use Rattle.placed.specs.State.{freshNode}
 use Rattle.placed.specs.declared.Node.{Node}
@@ -29,20 +23,14 @@ nodes17 c = search (needs, length-mapped)
 
 -- what the call says of the node at i
 here : (c : tie.After-is-counted Inv-loop μ-loop)
-    → counted (c .before .before .before .before .before .before .args .store .now) (getD (c .before .before .before .before .before .before .args .t1) (c .before .before .before .before .loop .i) freshNode) ≡ c .is-counted .result
+    → counted (c .before .before .before .before .before .before .args .store .now)
+    (getD (c .before .before .before .before .before .before .args .t1) (c .before .before .before .before .loop .i) freshNode) ≡
+    c .is-counted .result
 unfolding counted
 here c =
-    let n = nodes17 (c .before .before .before .before .before .before) in
-    ap (counted (c .before .before .before .before .before .before .args .store .now)) (sym (node-any (c .before .before .before .before .before .before .args .t1) (c .before .before .before .before .loop .i) (omega arith))) ∙ sym (c .is-counted .ensures)
-
-loop-holds : tie.Need-loop-holds Inv-loop μ-loop
-loop-holds c = search needs
-
-mul-n : tie.Need-mul-n Inv-loop μ-loop
-mul-n c = search needs
-
-array-copy-out-n : tie.Need-array-copy-out-n Inv-loop μ-loop
-array-copy-out-n c = search needs
+    let l = c .before .before .before .before in let s = l .before .before in
+    let n = nodes17 s in
+    ap (counted (s .args .store .now)) (sym (node-any (s .args .t1) (l .loop .i) (omega arith))) ∙ sym (c .is-counted .ensures)
 
 is-counted-requires : tie.Need-is-counted-requires Inv-loop μ-loop
 is-counted-requires c κs =
@@ -56,21 +44,21 @@ is-counted-requires c κs =
 
 returns : tie.Need-returns Inv-loop μ-loop
 returns c =
-    let n = nodes17 (c .before .before .before .before .before .before .before) in
-    let l = c .before .before .before .before .before .loop in
-    sym (l .inv .1 ∙ every-at (counted (c .before .before .before .before .before .before .before .args .store .now)) _ (l .i) freshNode (omega arith) ∙ no-and _ (here (c .before) ∙ not-true _ (c .if1 .taken)))
-
-add-i : tie.Need-add-i Inv-loop μ-loop
-add-i c = search needs
-
-loop-less : tie.Need-loop-less Inv-loop μ-loop
-loop-less c = search needs
+    let p = c .before .before .before .before .before in let s = p .before .before in
+    let n = nodes17 s in
+    let l = p .loop in
+    sym (l .inv .1 ∙ every-at (counted (s .args .store .now)) _ (l .i) freshNode (omega arith) ∙ no-and _
+    (here (c .before) ∙ not-true _ (c .if1 .taken)))
 
 loop-again : tie.Need-loop-again Inv-loop μ-loop
 loop-again c =
-    let n = nodes17 (c .before .before .before .before .before .before .before) in
-    let l = c .before .before .before .before .before .loop in
-    (omega arith, l .inv .1 ∙ every-at (counted (c .before .before .before .before .before .before .before .args .store .now)) _ (l .i) freshNode (omega arith) ∙ yes-and (here (c .before) ∙ not-false _ (c .if1 .left)))
+    let p = c .before .before .before .before .before in let s = p .before .before in
+    let n = nodes17 s in
+    let l = p .loop in (
+      omega arith,
+      l .inv .1 ∙ every-at (counted (s .args .store .now)) _ (l .i) freshNode (omega arith) ∙ yes-and
+          (here (c .before) ∙ not-false _ (c .if1 .left)),
+    )
 
 returns-2 : tie.Need-returns-2 Inv-loop μ-loop
 returns-2 c =
@@ -78,17 +66,5 @@ returns-2 c =
     sym (c .before .loop .inv .1 ∙ every-end (counted (c .before .before .before .args .store .now)) _ (c .before .loop .i) (omega arith))
 
 pub all-counted-spec : {M : Type 1} → statement M
-all-counted-spec =
-    tie.close
-    (tie.spec
-    Inv-loop
-    μ-loop
-    loop-holds
-    mul-n
-    array-copy-out-n
-    is-counted-requires
-    returns
-    add-i
-    loop-less
-    loop-again
-    returns-2)
+all-counted-spec = tie.close (tie.spec Inv-loop μ-loop (λ c. search needs) (λ c. search needs) (λ c. search needs) is-counted-requires
+    returns (λ c. search needs) (λ c. search needs) loop-again returns-2)

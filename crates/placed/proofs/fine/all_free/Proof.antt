@@ -1,12 +1,6 @@
 -- No word from the place to w is marked.
 -- Assumes nothing.
-use Prim.Native.Nat.{ℕ, _-_, _≤_, _<_}
-use mathlib.Core.Path.{_≡_, refl}
-use mathlib.Core.Logic.{inl, inr, ⊎-elim}
-use mathlib.Core.Bool.{false}
-use native.Mathlib.Omega.{arith}
-use lib.ListN.{getD}
-use borrow.Author.Needs.{needs}
+use Rattle.units.proofs.Common.{_≡_, refl, ⊎-elim, inl, inr, false, ℕ, _≤_, _-_, _<_, arith, getD, needs}
 use Rattle.state.proofs.Lists.{below-or}
 use Rattle.placed.proofs.fine.all_free.Statement.{statement}
 use Rattle.placed.proofs.fine.all_free.Tie as tie
@@ -17,23 +11,11 @@ Inv-loop used place len end w₀ w = (place ≤ w) × (w ≤ end) × ((v : ℕ) 
 abbrev μ-loop : tie.MeasureT-loop
 μ-loop used place len end w₀ w = end - w
 
-add-end : tie.Need-add-end Inv-loop μ-loop
-add-end c = search needs
-
 loop-holds : tie.Need-loop-holds Inv-loop μ-loop
 loop-holds c = (omega arith, omega arith, λ v a b. absurd (omega arith))
 
-element-copy-out-if1 : tie.Need-element-copy-out-if1 Inv-loop μ-loop
-element-copy-out-if1 c = search needs
-
 returns : tie.Need-returns Inv-loop μ-loop
 returns c = inr (refl, record { place = c .before .before .before .loop .w; from = omega arith; to = omega arith; marked = c .if1 .taken })
-
-add-w : tie.Need-add-w Inv-loop μ-loop
-add-w c = search needs
-
-loop-less : tie.Need-loop-less Inv-loop μ-loop
-loop-less c = search needs
 
 loop-again : tie.Need-loop-again Inv-loop μ-loop
 loop-again c =
@@ -50,16 +32,5 @@ returns-2 : tie.Need-returns-2 Inv-loop μ-loop
 returns-2 c = inl (refl, λ v a b. c .before .loop .inv .2 v a (omega arith))
 
 pub all-free-spec : {M : Type 1} → statement M
-all-free-spec =
-    tie.close
-    (tie.spec
-    Inv-loop
-    μ-loop
-    add-end
-    loop-holds
-    element-copy-out-if1
-    returns
-    add-w
-    loop-less
-    loop-again
-    returns-2)
+all-free-spec = tie.close (tie.spec Inv-loop μ-loop (λ c. search needs) loop-holds (λ c. search needs) returns (λ c. search needs)
+    (λ c. search needs) loop-again returns-2)

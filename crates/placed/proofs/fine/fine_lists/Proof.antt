@@ -1,23 +1,17 @@
 -- A walk over the pending answers (`Walk`): the marks are those of the answers passed, and the lists are fine exactly if the rest is.
 -- Each way on, and each way out, is one law of the walk. No more answers are passed than words.
 -- Assumes nothing.
-use Prim.Native.Nat.{ℕ, _+_, _-_, _≤_}
-use mathlib.Core.Path.{_≡_, refl, sym, ap, _∙_}
-use mathlib.Core.Logic.{⊎-elim}
-use mathlib.Core.Bool.{true, false}
-use mathlib.Core.List.{List}
-use native.Mathlib.Numerals.{add-one}
-use native.Mathlib.Omega.{arith}
-use lib.ListN.{length, getD, length-replicate, getD-replicate}
-use borrow.Author.Needs.{needs}
-use borrow.Author.Tests.{not-true, not-false}
-use Rattle.meaning.specs.Bench.{full}
+use Rattle.units.proofs.Common.{sym, _∙_, _≡_, refl, ap, ⊎-elim, true, false, List, ℕ, _≤_, _-_, _+_, add-one, arith, length, getD}
+use Rattle.units.proofs.Common.{length-replicate, not-false, not-true, needs}
+use lib.ListN.{getD-replicate}
+use Rattle.meaning.proofs.Terms.{full}
 use Rattle.placed.specs.Consistent.{okAnswer}
 use Rattle.placed.specs.declared.Node.{Node}
 use Rattle.placed.proofs.Formed.{lies, ok-front}
 use Rattle.placed.proofs.InOrder.{node-any}
 use Rattle.state.proofs.Lists.{length-mapped}
-use Rattle.placed.proofs.Marks.{apart, Walk, nodesLeft, left, walk-start, walk-in, walk-bad, walk-taken, walk-next, walk-end, walk-at, walk-out}
+use Rattle.placed.proofs.Marks.{apart, Walk, nodesLeft, left, walk-start, walk-in, walk-bad, walk-taken, walk-next, walk-end}
+use Rattle.placed.proofs.Marks.{walk-at, walk-out}
 use Rattle.placed.proofs.fine.fine_lists.Statement.{statement}
 use Rattle.placed.proofs.fine.fine_lists.Tie as tie
 
@@ -60,26 +54,25 @@ inside c = omega (arith, lies _ _ _ _ (in-order c) .inside, c .before .before .b
 nodes-holds : tie.Need-nodes-holds Inv-loop μ-loop Inv-nodes μ-nodes
 nodes-holds c = (omega arith, refl, walk-start _ _ _ _ _ (length-replicate 4096 false) (λ w h. getD-replicate 4096 w false false h))
 
-mul-n : tie.Need-mul-n Inv-loop μ-loop Inv-nodes μ-nodes
-mul-n c = search needs
-
-array-copy-out-n : tie.Need-array-copy-out-n Inv-loop μ-loop Inv-nodes μ-nodes
-array-copy-out-n c = search needs
-
 loop-holds : tie.Need-loop-holds Inv-loop μ-loop Inv-nodes μ-nodes
 loop-holds c =
-    let n = nodes17 (c .before .before .before .before .before) in
-    let e = node-any (c .before .before .before .before .before .args .t1) (c .before .before .before .nodes .i) (omega arith) in
-    (omega arith, omega arith, c .before .before .before .nodes .inv .1, walk-in _ _ _ _ _ _ _ (omega arith) (ap (λ (x : Node). x .list) e) (c .before .before .before .nodes .inv .2))
-
-answer-ok-requires : tie.Need-answer-ok-requires Inv-loop μ-loop Inv-nodes μ-nodes
-answer-ok-requires c κs = search needs
+    let s = c .before .before .before .before .before in
+    let n = nodes17 s in
+    let e = node-any (s .args .t1) (c .before .before .before .nodes .i) (omega arith) in (
+      omega arith,
+      omega arith,
+      c .before .before .before .nodes .inv .1,
+      walk-in _ _ _ _ _ _ _ (omega arith) (ap (λ (x : Node). x .list) e)
+          (c .before .before .before .nodes .inv .2),
+    )
 
 mul-len : tie.Need-mul-len Inv-loop μ-loop Inv-nodes μ-nodes
 mul-len c = record { fits = omega (arith, inside c) }
 
 shared-slice-read-len : tie.Need-shared-slice-read-len Inv-loop μ-loop Inv-nodes μ-nodes
-shared-slice-read-len c = omega (arith, inside (c .before), lies _ _ _ _ (in-order (c .before)) .least, c .before .before .before .before .before .before .before .before .before .before .pre)
+shared-slice-read-len c =
+    let s = c .before .before .before .before .before .before .before .before .before .before in
+    omega (arith, inside (c .before), lies _ _ _ _ (in-order (c .before)) .least, s .pre)
 
 cast-len : tie.Need-cast-len Inv-loop μ-loop Inv-nodes μ-nodes
 cast-len c = record { fits = omega (arith, c .shared-slice-known2 .given (spot (c .before .before .before))) }
@@ -88,7 +81,9 @@ all-free-requires : tie.Need-all-free-requires Inv-loop μ-loop Inv-nodes μ-nod
 all-free-requires c κs = inside (c .before .before)
 
 mark-requires : tie.Need-mark-requires Inv-loop μ-loop Inv-nodes μ-nodes
-mark-requires c κs = (inside (c .before .before .before .before .before), c .before .before .before .before .before .before .before .before .loop .inv .3 .long)
+mark-requires c κs =
+    let p = c .before .before .before .before .before in let l = p .before .before .before in
+    (inside p, l .loop .inv .3 .long)
 
 add-place : tie.Need-add-place Inv-loop μ-loop Inv-nodes μ-nodes
 add-place c = record { fits = omega (arith, inside (c .before .before .before .before .before .before)) }
@@ -96,30 +91,26 @@ add-place c = record { fits = omega (arith, inside (c .before .before .before .b
 add-k : tie.Need-add-k Inv-loop μ-loop Inv-nodes μ-nodes
 add-k c = record { fits = omega (arith, inside (c .before .before .before .before .before .before)) }
 
-loop-less : tie.Need-loop-less Inv-loop μ-loop Inv-nodes μ-nodes
-loop-less c = search needs
-
 loop-again : tie.Need-loop-again Inv-loop μ-loop Inv-nodes μ-nodes
 loop-again c =
-    let d = c .before .before .before .before .before .before in
-    let w = walk-at _ _ _ _ _ _ _ (c .before .before .before .before .before .before .before .before .before .loop .k) _ (c .before .before .before .before .before .before .before .before .loop-test .taken) (c .before .before .before .before .before .before .before .before .before .loop .inv .3) in (
+    let d = c .before .before .before .before .before .before in let l = d .before .before .before in
+    let w = walk-at _ _ _ _ _ _ _ (l .loop .k) _ (d .before .before .loop-test .taken) (l .loop .inv .3) in (
       omega arith,
       omega (arith, lies _ _ _ _ (in-order d) .least),
-      c .before .before .before .before .before .before .before .before .before .loop .inv .2,
+      l .loop .inv .2,
       ⊎-elim
           (λ f. walk-next _ _ _ _ _ _ _ _ _ w (in-order d) (inside d) (f .1) (c .mark .ensures))
           (λ f. absurd (apart (not-false _ (c .before .before .if2 .left)) (f .0)))
           (c .before .before .before .all-free .ensures),
     )
 
-add-i : tie.Need-add-i Inv-loop μ-loop Inv-nodes μ-nodes
-add-i c = search needs
-
-nodes-less : tie.Need-nodes-less Inv-loop μ-loop Inv-nodes μ-nodes
-nodes-less c = search needs
-
 nodes-again : tie.Need-nodes-again Inv-loop μ-loop Inv-nodes μ-nodes
-nodes-again c = (omega arith, c .before .loop .inv .2, rw add-one (walk-out _ _ _ _ _ _ _ (c .before .loop .k) _ (c .loop-test .left) (c .before .loop .inv .3)))
+nodes-again c = (
+  omega arith,
+  c .before .loop .inv .2,
+  rw add-one (walk-out _ _ _ _ _ _ _ (c .before .loop .k) _ (c .loop-test .left)
+      (c .before .loop .inv .3)),
+)
 
 returns : tie.Need-returns Inv-loop μ-loop Inv-nodes μ-nodes
 returns c =
@@ -128,43 +119,20 @@ returns c =
 
 returns-2 : tie.Need-returns-2 Inv-loop μ-loop Inv-nodes μ-nodes
 returns-2 c =
-    let w = walk-at _ _ _ _ _ _ _ (c .before .before .before .loop .k) _ (c .before .before .loop-test .taken) (c .before .before .before .loop .inv .3) in
+    let w = walk-at _ _ _ _ _ _ _ (c .before .before .before .loop .k) _ (c .before .before .loop-test .taken)
+    (c .before .before .before .loop .inv .3) in
     sym (walk-bad _ _ _ _ _ _ _ _ w (ok-front _ _ _ _ ∙ sym (c .before .answer-ok .ensures) ∙ not-true _ (c .if1 .taken)))
 
 returns-3 : tie.Need-returns-3 Inv-loop μ-loop Inv-nodes μ-nodes
 returns-3 c =
-    let d = c .before .before .before .before in
-    let w = walk-at _ _ _ _ _ _ _ (c .before .before .before .before .before .before .before .loop .k) _ (c .before .before .before .before .before .before .loop-test .taken) (c .before .before .before .before .before .before .before .loop .inv .3) in
+    let d = c .before .before .before .before in let l = d .before .before .before in
+    let w = walk-at _ _ _ _ _ _ _ (l .loop .k) _ (d .before .before .loop-test .taken) (l .loop .inv .3) in
     ⊎-elim
     (λ f. absurd (apart (f .0) (not-true _ (c .if2 .taken))))
     (λ f. sym (walk-taken _ _ _ _ _ _ _ _ w (in-order d) (inside d) (f .1)))
     (c .before .all-free .ensures)
 
 pub fine-lists-spec : {M : Type 1} → statement M
-fine-lists-spec =
-    tie.close
-    (tie.spec
-    Inv-loop
-    μ-loop
-    Inv-nodes
-    μ-nodes
-    nodes-holds
-    mul-n
-    array-copy-out-n
-    loop-holds
-    answer-ok-requires
-    mul-len
-    shared-slice-read-len
-    cast-len
-    all-free-requires
-    mark-requires
-    add-place
-    add-k
-    loop-less
-    loop-again
-    add-i
-    nodes-less
-    nodes-again
-    returns
-    returns-2
-    returns-3)
+fine-lists-spec = tie.close (tie.spec Inv-loop μ-loop Inv-nodes μ-nodes nodes-holds (λ c. search needs) (λ c. search needs) loop-holds
+    (λ c κs. search needs) mul-len shared-slice-read-len cast-len all-free-requires mark-requires add-place add-k (λ c. search needs)
+    loop-again (λ c. search needs) (λ c. search needs) nodes-again returns returns-2 returns-3)

@@ -1,15 +1,10 @@
 -- The array's first i counts are those that are to be there.
 -- Assumes nothing.
-use Prim.Native.Nat.{_-_, _≤_}
-use mathlib.Core.Path.{_≡_, sym, ap, _∙_}
-use native.Mathlib.Omega.{arith}
-use lib.ListN.{length, take, length-map, length-set}
-use lib.Seq.{take-all}
-use borrow.Author.Needs.{needs}
+use Rattle.units.proofs.Common.{sym, _∙_, _≡_, ap, _≤_, _-_, arith, length, take, length-set, length-map, take-all, needs}
 use Rattle.placed.specs.declared.Node.{Node}
 use Rattle.placed.proofs.InOrder.{node-any, length-words, words-at}
 use Rattle.state.proofs.Lists.{length-mapped, filled}
-use Rattle.state.specs.Consistent.{counts}
+use Rattle.state.proofs.Terms.{counts}
 use Rattle.placed.specs.Walked.{wordsOf}
 use Rattle.placed.proofs.fine.helds.Statement.{statement}
 use Rattle.placed.proofs.fine.helds.Tie as tie
@@ -22,27 +17,6 @@ abbrev μ-loop : tie.MeasureT-loop
 
 nodes17 : (c : tie.Start Inv-loop μ-loop) → length (c .args .t1) ≡ 17
 nodes17 c = search (needs, length-mapped)
-
-loop-holds : tie.Need-loop-holds Inv-loop μ-loop
-loop-holds c = search needs
-
-mul-n : tie.Need-mul-n Inv-loop μ-loop
-mul-n c = search needs
-
-array-copy-out-n : tie.Need-array-copy-out-n Inv-loop μ-loop
-array-copy-out-n c = search needs
-
-mul-hs : tie.Need-mul-hs Inv-loop μ-loop
-mul-hs c = search needs
-
-array-set-from-hs : tie.Need-array-set-from-hs Inv-loop μ-loop
-array-set-from-hs c = search needs
-
-add-i : tie.Need-add-i Inv-loop μ-loop
-add-i c = search needs
-
-loop-less : tie.Need-loop-less Inv-loop μ-loop
-loop-less c = search needs
 
 loop-again : tie.Need-loop-again Inv-loop μ-loop
 loop-again c =
@@ -61,17 +35,5 @@ returns c =
     sym (take-all (l .i) _ (omega arith)) ∙ l .inv .2 ∙ take-all (l .i) _ (omega arith)
 
 pub helds-spec : {M : Type 1} → statement M
-helds-spec =
-    tie.close
-    (tie.spec
-    Inv-loop
-    μ-loop
-    loop-holds
-    mul-n
-    array-copy-out-n
-    mul-hs
-    array-set-from-hs
-    add-i
-    loop-less
-    loop-again
-    returns)
+helds-spec = tie.close (tie.spec Inv-loop μ-loop (λ c. search needs) (λ c. search needs) (λ c. search needs) (λ c. search needs)
+    (λ c. search needs) (λ c. search needs) (λ c. search needs) loop-again returns)

@@ -1,14 +1,7 @@
 -- sum is the words of the first k answers, which lie one behind the other.
 -- Assumes nothing.
-use Prim.Native.Nat.{ℕ, _+_, _-_, _≤_}
-use mathlib.Core.Path.{_≡_, sym, ap, subst, _∙_}
-use mathlib.Core.Bool.{true}
-use native.Mathlib.Omega.{arith}
-use lib.Dec.{eqb}
-use lib.ListN.{getD}
-use borrow.Author.Needs.{needs}
-use Rattle.meaning.specs.Bench.{full}
-use Rattle.meaning.specs.Room.{added}
+use Rattle.units.proofs.Common.{sym, _∙_, _≡_, ap, subst, true, ℕ, _≤_, _-_, _+_, arith, eqb, getD, needs}
+use Rattle.meaning.proofs.Terms.{full, added}
 use Rattle.placed.specs.Consistent.{okAnswer}
 use Rattle.placed.specs.Machine.{startsOf, placesOf, pendingOf}
 use Rattle.placed.proofs.Formed.{Lies, lies}
@@ -24,13 +17,15 @@ abbrev μ-loop : tie.MeasureT-loop
 
 -- the answer that begins behind those passed is in order
 next : (c : tie.In-loop Inv-loop μ-loop)
-    → Lies full (c .before .before .args .store .now) (c .before .before .args .i) (c .before .before .args .list .place + c .before .loop .sum)
+    → Lies full (c .before .before .args .store .now) (c .before .before .args .i)
+    (c .before .before .args .list .place + c .before .loop .sum)
 next c =
     let a = c .before .before .args in
     let l = a .list in
     let k = c .before .loop .k in
     let e : getD (placesOf (a .store .now) l) k 0 ≡ l .place + c .before .loop .sum =
-    starts-at (a .store .now) (l .count) (l .place) k (c .loop-test .taken) ∙ ap (λ (s : ℕ). l .place + s) (sym (c .before .loop .inv .1)) in
+    starts-at (a .store .now) (l .count) (l .place) k (c .loop-test .taken) ∙ ap (λ (s : ℕ). l .place + s)
+    (sym (c .before .loop .inv .1)) in
     lies _ _ _ _ (subst (λ (p : ℕ). okAnswer full (a .store .now) (a .i) p ≡ true) e (c .before .before .pre .0 k (c .loop-test .taken)))
 
 loop-holds : tie.Need-loop-holds Inv-loop μ-loop
@@ -47,24 +42,24 @@ shared-slice-read-sum : tie.Need-shared-slice-read-sum Inv-loop μ-loop
 shared-slice-read-sum c = omega (arith, next (c .before .before) .inside, next (c .before .before) .least)
 
 cast-sum : tie.Need-cast-sum Inv-loop μ-loop
-cast-sum c = record { fits = omega (arith, c .shared-slice-known .given (c .before .before .before .before .args .list .place + c .before .before .before .loop .sum)) }
+cast-sum c =
+    let a = c .before .before .before .before .args in
+    record { fits = omega (arith, c .shared-slice-known .given (a .list .place + c .before .before .before .loop .sum)) }
 
 add-sum : tie.Need-add-sum Inv-loop μ-loop
 add-sum c = record { fits = omega (arith, next (c .before .before) .inside, c .before .before .before .before .pre .1) }
 
-add-k : tie.Need-add-k Inv-loop μ-loop
-add-k c = search needs
-
-loop-less : tie.Need-loop-less Inv-loop μ-loop
-loop-less c = search needs
-
 loop-again : tie.Need-loop-again Inv-loop μ-loop
 loop-again c =
-    let a = c .before .before .before .before .args in
-    (omega arith, rw (span-more (a .store .now) (c .before .before .before .loop .k) (a .list .place), ← c .before .before .before .loop .inv .1))
-
-cast-result : tie.Need-cast-result Inv-loop μ-loop
-cast-result c = search needs
+    let s = c .before .before .before .before in
+    let a = s .args in (
+      omega arith,
+      rw (
+        span-more (a .store .now) (c .before .before .before .loop .k) (a .list .place),
+        ←
+            c .before .before .before .loop .inv .1,
+      ),
+    )
 
 returns : tie.Need-returns Inv-loop μ-loop
 unfolding pendingOf
@@ -74,19 +69,5 @@ returns c =
     ap (λ (s : ℕ). eqb (a .list .words .0) s) (c .before .before .loop .inv .1 ∙ ap (λ (j : ℕ). span (a .store .now) j (a .list .place)) e)
 
 pub is-counted-spec : {M : Type 1} → statement M
-is-counted-spec =
-    tie.close
-    (tie.spec
-    Inv-loop
-    μ-loop
-    loop-holds
-    add-place
-    mul-sum
-    shared-slice-read-sum
-    cast-sum
-    add-sum
-    add-k
-    loop-less
-    loop-again
-    cast-result
-    returns)
+is-counted-spec = tie.close (tie.spec Inv-loop μ-loop loop-holds add-place mul-sum shared-slice-read-sum cast-sum add-sum
+    (λ c. search needs) (λ c. search needs) loop-again (λ c. search needs) returns)

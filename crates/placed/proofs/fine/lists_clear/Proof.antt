@@ -1,15 +1,7 @@
 -- The lists are clear exactly if those from node i on are.
 -- Assumes nothing.
-use Prim.Native.Nat.{_-_, _≤_}
-use mathlib.Core.Path.{_≡_, sym, _∙_}
-use mathlib.Core.Bool.{true}
-use mathlib.Core.Logic.{⊎-elim}
-use native.Mathlib.Omega.{arith}
-use lib.ListN.{length, drop, getD}
-use borrow.Author.Needs.{needs}
-use borrow.Author.Tests.{not-true, not-false, eq-eqb, ne-eqb}
-use Rattle.units.specs.Count.{every}
-use Rattle.units.proofs.Choice.{yes-cond, no-cond, yes-and, no-and}
+use Rattle.units.proofs.Common.{sym, _∙_, _≡_, ⊎-elim, true, _≤_, _-_, arith, length, drop, getD, eq-eqb, ne-eqb, not-false, not-true}
+use Rattle.units.proofs.Common.{needs, every, yes-cond, no-cond, yes-and, no-and}
 use Rattle.placed.specs.Consistent.{listClear}
 use Rattle.placed.proofs.InOrder.{blank}
 use Rattle.state.proofs.Lists.{length-mapped, every-at, every-end}
@@ -25,40 +17,27 @@ abbrev μ-loop : tie.MeasureT-loop
 nodes17 : (c : tie.Start Inv-loop μ-loop) → length (c .args .t1) ≡ 17
 nodes17 c = search (needs, length-mapped)
 
-loop-holds : tie.Need-loop-holds Inv-loop μ-loop
-loop-holds c = search needs
-
-mul-n : tie.Need-mul-n Inv-loop μ-loop
-mul-n c = search needs
-
-array-copy-out-n : tie.Need-array-copy-out-n Inv-loop μ-loop
-array-copy-out-n c = search needs
-
 returns : tie.Need-returns Inv-loop μ-loop
 unfolding listClear
 returns c =
-    let n = nodes17 (c .before .before .before .before .before .before .before .before) in
-    let l = c .before .before .before .before .before .before .before .loop in
+    let p = c .before .before .before .before .before .before .before in let s = p .before in
+    let n = nodes17 s in
+    let l = p .loop in
     let e = yes-cond _ (eq-eqb _ _ (c .before .before .if1 .taken)) ∙ not-true _ (c .if2 .taken) in
-    sym (l .inv .1 ∙ every-at listClear (c .before .before .before .before .before .before .before .before .args .t1) (l .i) _ (omega arith) ∙ no-and _ e)
-
-add-i : tie.Need-add-i Inv-loop μ-loop
-add-i c = search needs
-
-loop-less : tie.Need-loop-less Inv-loop μ-loop
-loop-less c = search needs
+    sym (l .inv .1 ∙ every-at listClear (s .args .t1) (l .i) _ (omega arith) ∙ no-and _ e)
 
 loop-again : tie.Need-loop-again Inv-loop μ-loop
 unfolding listClear
 loop-again c =
-    let n = nodes17 (c .before .before .before .before .before .before) in
-    let l = c .before .before .before .before .before .loop in
-    let e : listClear (getD (c .before .before .before .before .before .before .args .t1) (l .i) blank) ≡ true =
+    let p = c .before .before .before .before .before in let s = p .before in
+    let n = nodes17 s in
+    let l = p .loop in
+    let e : listClear (getD (s .args .t1) (l .i) blank) ≡ true =
     ⊎-elim
     (λ w. yes-cond _ (eq-eqb _ _ (w .0 .taken)) ∙ not-false _ (w .2 .left))
     (λ w. no-cond _ (ne-eqb _ _ (w .left)))
     (c .if1 .came) in
-    (omega arith, l .inv .1 ∙ every-at listClear (c .before .before .before .before .before .before .args .t1) (l .i) blank (omega arith) ∙ yes-and e)
+    (omega arith, l .inv .1 ∙ every-at listClear (s .args .t1) (l .i) blank (omega arith) ∙ yes-and e)
 
 returns-2 : tie.Need-returns-2 Inv-loop μ-loop
 returns-2 c =
@@ -66,16 +45,5 @@ returns-2 c =
     sym (c .before .loop .inv .1 ∙ every-end listClear _ (c .before .loop .i) (omega arith))
 
 pub lists-clear-spec : {M : Type 1} → statement M
-lists-clear-spec =
-    tie.close
-    (tie.spec
-    Inv-loop
-    μ-loop
-    loop-holds
-    mul-n
-    array-copy-out-n
-    returns
-    add-i
-    loop-less
-    loop-again
-    returns-2)
+lists-clear-spec = tie.close (tie.spec Inv-loop μ-loop (λ c. search needs) (λ c. search needs) (λ c. search needs) returns
+    (λ c. search needs) (λ c. search needs) loop-again returns-2)

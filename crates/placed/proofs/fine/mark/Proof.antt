@@ -1,10 +1,6 @@
 -- The words from the place to w are marked, and no other.
 -- Assumes nothing.
-use Prim.Native.Nat.{_+_, _-_, _≤_, _<_}
-use mathlib.Core.Path.{_≡_}
-use native.Mathlib.Omega.{arith}
-use lib.ListN.{length}
-use borrow.Author.Needs.{needs}
+use Rattle.units.proofs.Common.{_≡_, _≤_, _-_, _+_, _<_, arith, length, needs}
 use Rattle.placed.specs.Marks.{Marked}
 use Rattle.placed.proofs.Marks.{marked-none, marked-more}
 use Rattle.placed.proofs.fine.mark.Statement.{statement}
@@ -16,20 +12,11 @@ Inv-loop used₀ place len end w₀ used w = (place ≤ w) × (w ≤ end) × Mar
 abbrev μ-loop : tie.MeasureT-loop
 μ-loop used₀ place len end w₀ used w = end - w
 
-add-end : tie.Need-add-end Inv-loop μ-loop
-add-end c = search needs
-
 loop-holds : tie.Need-loop-holds Inv-loop μ-loop
 loop-holds c = (omega arith, omega arith, (let e : c .args .place - c .args .place ≡ 0 = omega arith in rw e (marked-none _ _)))
 
 element-write-used : tie.Need-element-write-used Inv-loop μ-loop
 element-write-used c = omega (arith, c .before .loop .inv .2 .long, c .before .before .pre .1)
-
-add-w : tie.Need-add-w Inv-loop μ-loop
-add-w c = search needs
-
-loop-less : tie.Need-loop-less Inv-loop μ-loop
-loop-less c = search needs
 
 loop-again : tie.Need-loop-again Inv-loop μ-loop
 loop-again c =
@@ -49,15 +36,5 @@ returns c =
     rw e at (c .before .loop .inv .2)
 
 pub mark-spec : {M : Type 1} → statement M
-mark-spec =
-    tie.close
-    (tie.spec
-    Inv-loop
-    μ-loop
-    add-end
-    loop-holds
-    element-write-used
-    add-w
-    loop-less
-    loop-again
-    returns)
+mark-spec = tie.close (tie.spec Inv-loop μ-loop (λ c. search needs) loop-holds element-write-used (λ c. search needs)
+    (λ c. search needs) loop-again returns)

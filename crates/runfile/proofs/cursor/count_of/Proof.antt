@@ -1,19 +1,15 @@
 -- The count is broken exactly where fewer than two bytes are left.
 -- Assumes nothing.
-use native.Mathlib.Omega.{arith}
+use Rattle.units.proofs.Common.{arith, needs}
 use Rattle.runfile.proofs.Records.{no-count, a-count}
-use borrow.Author.Needs.{needs}
 use Rattle.runfile.proofs.cursor.count_of.Statement.{statement}
 use Rattle.runfile.proofs.cursor.count_of.Tie as tie
 
 returns : tie.Need-returns
 returns c = no-count _ (λ h. omega arith)
 
-two-at-requires : tie.Need-two-at-requires
-two-at-requires c κs = search needs
-
 returns-2 : tie.Need-returns-2
 returns-2 c = rw (c .two-at .ensures) (a-count _ (omega arith))
 
 pub count-of-spec : {M : Type 1} → statement M
-count-of-spec = tie.close (tie.spec returns two-at-requires returns-2)
+count-of-spec = tie.close (tie.spec returns (λ c κs. search needs) returns-2)

@@ -1,8 +1,6 @@
 -- `aim_arrive` has the doubts of an arrival in their order: 7, 9, then 10 (laws of `Aimed`).
 -- Assumes nothing.
-use mathlib.Core.Path.{_∙_}
-use borrow.Author.Needs.{needs}
-use borrow.Author.Tests.{not-true, not-false}
+use Rattle.units.proofs.Common.{_∙_, not-false, not-true, needs}
 use Rattle.meaning.proofs.Chain.{flag}
 use Rattle.talk.proofs.Aimed.{arrive-7, arrive-9, arrive-few, arrive-many, arrive-0}
 use Rattle.talk.proofs.aim.aim_arrive.Statement.{statement}
@@ -54,16 +52,5 @@ returns-5 c ws =
     (c .if4 .left)
 
 pub aim-arrive-spec : {M : Type 1} → statement M
-aim-arrive-spec =
-    tie.close
-    (tie.spec
-    (λ c κs. search needs)
-    (λ c κs. search needs)
-    returns
-    (λ c κs. search needs)
-    returns-2
-    (λ c κs. search needs)
-    returns-3
-    (λ c κs. search needs)
-    returns-4
-    returns-5)
+aim-arrive-spec = tie.close (tie.spec (λ c κs. search needs) (λ c κs. search needs) returns (λ c κs. search needs) returns-2
+    (λ c κs. search needs) returns-3 (λ c κs. search needs) returns-4 returns-5)

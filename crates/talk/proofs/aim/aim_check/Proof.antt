@@ -1,8 +1,6 @@
 -- `aim_check` has the doubts of a field check in their order: 3, then 7 (laws of `Aimed`).
 -- Assumes nothing.
-use mathlib.Core.Path.{_∙_}
-use borrow.Author.Needs.{needs}
-use borrow.Author.Tests.{not-true, not-false}
+use Rattle.units.proofs.Common.{_∙_, not-false, not-true, needs}
 use Rattle.meaning.proofs.Chain.{flag}
 use Rattle.talk.proofs.Aimed.{check-3, check-7, check-0}
 use Rattle.talk.proofs.aim.aim_check.Statement.{statement}
@@ -32,13 +30,5 @@ returns-3 c ws =
     (flag (r .is-reader .ensures) (not-false _ (c .if2 .left)))
 
 pub aim-check-spec : {M : Type 1} → statement M
-aim-check-spec =
-    tie.close
-    (tie.spec
-    (λ c κs. search needs)
-    (λ c κs. search needs)
-    returns
-    (λ c κs. search needs)
-    (λ c κs. search needs)
-    returns-2
-    returns-3)
+aim-check-spec = tie.close (tie.spec (λ c κs. search needs) (λ c κs. search needs) returns (λ c κs. search needs) (λ c κs. search needs)
+    returns-2 returns-3)

@@ -1,11 +1,8 @@
 -- `aim_command` aims a command as `judge_command` judges it (laws of `Aimed`).
 -- Assumes nothing.
-use mathlib.Core.Path.{sym, _∙_}
-use lib.ListN.{take}
-use lib.Seq.{length-take-le}
-use Rattle.meaning.specs.Bench.{full}
+use Rattle.units.proofs.Common.{sym, _∙_, take, length-take-le, needs}
+use Rattle.meaning.proofs.Terms.{full}
 use Rattle.command.proofs.Judging.{its-refusal, its-kind, its-command}
-use borrow.Author.Needs.{needs}
 use Rattle.talk.proofs.Aimed.{command-stops, command-gateway, command-reader}
 use Rattle.talk.proofs.aim.aim_command.Statement.{statement}
 use Rattle.talk.proofs.aim.aim_command.Tie as tie
@@ -43,13 +40,5 @@ returns-3 c =
     (its-command full (a .stamp) (a .form) ws e) (c .if2 .left)
 
 pub aim-command-spec : {M : Type 1} → statement M
-aim-command-spec =
-    tie.close
-    (tie.spec
-    (λ c. search needs)
-    slice-aggregate-judge-command
-    (λ c κs. search needs)
-    (λ c κs. search needs)
-    returns
-    returns-2
-    returns-3)
+aim-command-spec = tie.close (tie.spec (λ c. search needs) slice-aggregate-judge-command (λ c κs. search needs) (λ c κs. search needs)
+    returns returns-2 returns-3)

@@ -1,9 +1,6 @@
 -- `is_reader` has the bounds of the definition's test: nodes 1 to 16.
 -- Assumes nothing.
-use mathlib.Core.Path.{_∙_, sym}
-use native.Mathlib.Omega.{arith}
-use borrow.Author.Tests.{le-leb, lt-leb}
-use Rattle.units.proofs.Choice.{yes-and, no-and}
+use Rattle.units.proofs.Common.{sym, _∙_, arith, le-leb, lt-leb, yes-and, no-and}
 use Rattle.talk.proofs.aim.is_reader.Statement.{statement}
 use Rattle.talk.proofs.aim.is_reader.Tie as tie
 
