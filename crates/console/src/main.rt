@@ -1,9 +1,10 @@
 // The bench console: a call a line on standard input, an answer a line on standard output, until the input ends. Where input or output
 // fails, that is said on standard error, and the console ends.
-use conversation::LONGEST;
 use conversation::speak;
+use dialogout::LONGEST_ANSWER;
 use libc::STDERR_FILENO;
 use libc::STDIN_FILENO;
+use lines::LONGEST_LINE;
 use plaques::copy_bytes;
 use state::State;
 use streams::put;
@@ -19,7 +20,7 @@ ghost use Rattle.state.specs.Consistent.{unfit};
 ghost use Rattle.dialog.specs.Dialog.{longestAnswer};
 
 // A line that goes on is kept up to a byte more than the longest that is looked into, which shows that it is longer.
-const KEPT: usize = 4401;
+const KEPT: usize = LONGEST_LINE + 1;
 
 // As much is read at a time.
 const PIECE: usize = 2048;
@@ -157,7 +158,7 @@ fn play_into(out: &mut [u8])
 
 // No line of what is looked at in one go has a longer answer, and a line has a byte at least.
 fn play() {
-    let mut out = [0u8; LONGEST * (KEPT + PIECE)];
+    let mut out = [0u8; LONGEST_ANSWER * (KEPT + PIECE)];
     play_into(&mut out);
 }
 

@@ -1,5 +1,6 @@
 // The console's lines played: those of an input on a machine that is known to be consistent, and a whole conversation with a fresh gateway.
 use answers::slots::node_slot;
+use dialogout::LONGEST_ANSWER;
 use dialogout::put_said;
 use gather::count_lines;
 use gather::line_end;
@@ -24,9 +25,6 @@ ghost use Rattle.state.specs.Machine.{machine};
 ghost use Rattle.state.specs.Consistent.{unfit};
 ghost use Rattle.dialog.specs.Dialog.{linesOf, longestAnswer};
 ghost use Rattle.conversation.specs.Conversation.{Speaks, Converses};
-
-// No line has a longer answer.
-pub const LONGEST: usize = dialogout::LONGEST;
 
 // The state after the lines, and the place in the output after their answers.
 pub struct Spoken {
@@ -127,7 +125,7 @@ pub enum Text {
 pub fn converse(input: &[u8], out: &mut [u8]) -> Text
     ensures { λ r. ⌜ Converses (now (input .entry)) (now (out .entry)) (now (out .exit)) r ⌝ }
 {
-    if out.len() / LONGEST < count_lines(input) {
+    if out.len() / LONGEST_ANSWER < count_lines(input) {
         return Text::TooShort;
     }
     let mut store = [0u16; Words::STORE.0 as usize];

@@ -18,7 +18,7 @@ ghost use Rattle.promise.specs.Obeyed.{spoken};
 ghost use Rattle.dialog.specs.Dialog.{unreadableLine, collectedLine, saidLine, storeLine, longestAnswer};
 
 // No line out is longer, its line feed counted.
-pub const LONGEST: usize = 691;
+pub const LONGEST_ANSWER: usize = 691;
 
 pub fn put_unreadable(out: &mut [u8], at: usize) -> usize
     requires { ⌜ at + 11 ≤ length (now out) ⌝ }

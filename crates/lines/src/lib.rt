@@ -54,7 +54,7 @@ pub const LONGEST_ID: Bytes = Bytes(16);
 pub const LONGEST_PLAQUE: Bytes = Bytes(2047);
 
 // The longest line that is looked into.
-pub const LONGEST: usize = 4400;
+pub const LONGEST_LINE: usize = 4400;
 
 // Puts the words, the ID and the bytes to the front of the buffers, as much as they have room for; the rest of them stays.
 pub fn read_line(line: &[u8], words: &mut [u16], id: &mut [u8], bytes: &mut [u8]) -> Heard
@@ -63,7 +63,7 @@ pub fn read_line(line: &[u8], words: &mut [u16], id: &mut [u8], bytes: &mut [u8]
     ensures { λ _. ⌜ now (id .exit) ≡ onto (idIn (spoken (now (line .entry)))) (now (id .entry)) ⌝ }
     ensures { λ _. ⌜ now (bytes .exit) ≡ onto (bytesIn (spoken (now (line .entry)))) (now (bytes .entry)) ⌝ }
 {
-    if LONGEST < line.len() {
+    if LONGEST_LINE < line.len() {
         return Heard::Unreadable;
     }
     if line.len() == 0 {

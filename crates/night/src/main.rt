@@ -3,7 +3,7 @@
 // there too, and nothing more is played.
 use libc::STDERR_FILENO;
 use libc::STDIN_FILENO;
-use nightrun::LONGEST;
+use nightrun::LONGEST_LISTING;
 use nightrun::Listed;
 use nightrun::list;
 use plaques::copy_bytes;
@@ -23,7 +23,7 @@ fn write_into(file: &[u8], out: &mut [u8]) -> bool {
 
 // With room for every listing. (In a function of its own: no proof then looks at each of so many bytes.)
 fn write_listing(file: &[u8]) -> bool {
-    let mut out = [0u8; LONGEST];
+    let mut out = [0u8; LONGEST_LISTING];
     write_into(file, &mut out)
 }
 

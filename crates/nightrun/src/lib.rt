@@ -16,13 +16,13 @@ pub enum Listed {
 }
 
 // No listing of a file of at most 65,536 bytes is longer.
-pub const LONGEST: usize = 2600000;
+pub const LONGEST_LISTING: usize = 2600000;
 
 // The whole listing, at the front of the output; what is past it stays.
 pub fn list(file: &[u8], out: &mut [u8]) -> Listed
     ensures { λ r. ⌜ Lists (now (file .entry)) (now (out .entry)) (now (out .exit)) r ⌝ }
 {
-    if out.len() < LONGEST {
+    if out.len() < LONGEST_LISTING {
         return Listed::TooShort;
     }
     let mut store = [0u16; Words::STORE.0 as usize];

@@ -9,7 +9,7 @@ use meaning::table::Kind;
 use plaques::arrive;
 use runfile::CommandRecord;
 use runfile::CountRecord;
-use runfile::LONGEST;
+use runfile::LONGEST_FILE;
 use runfile::PlaqueRecord;
 use runfile::read_command;
 use runfile::read_count;
@@ -238,7 +238,7 @@ pub fn open(file: &[u8], s: State, store: &[u16], plaques: &mut [u8]) -> Opened
     ensures { λ r. ⌜ Opens full (now (file .entry)) (meaning full (machine s (now (store .entry)) (now (plaques .entry)))) r
         (machine (r .state) (now (store .entry)) (now (plaques .exit))) ⌝ }
 {
-    if LONGEST < file.len() {
+    if LONGEST_FILE < file.len() {
         return broken(s);
     }
     let CountRecord::Count(count) = read_count(file, 0) else {

@@ -12,7 +12,7 @@ ghost use Rattle.meaning.specs.Bench.{full};
 ghost use Rattle.runfile.specs.Records.{countOf, plaqueOf, commandOf};
 
 // No run file is longer.
-pub const LONGEST: usize = 65536;
+pub const LONGEST_FILE: usize = 65536;
 
 pub enum CountRecord {
     Count(u16),

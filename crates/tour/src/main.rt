@@ -1,6 +1,6 @@
 // A tour of the bench: at each reader a plaque arrives, a command reads three of its bytes, and the answer is collected and acknowledged;
 // at the gateway the name is asked for. Each answer, in framed form, is a line. Then the gateway's handover number goes around.
-use dialogout::LONGEST;
+use dialogout::LONGEST_ANSWER;
 use dialogout::put_handed;
 use gateway::acknowledge;
 use gateway::arrive;
@@ -92,9 +92,9 @@ fn show(s: State, store: &[u16], plaques: &[u8]) {
     if 134 < n {
         return;
     }
-    let mut line = [0u8; LONGEST];
+    let mut line = [0u8; LONGEST_ANSWER];
     let end = put_handed(&mut line, 0, number, Form::Framed, 32, &out[..n]);
-    if end <= LONGEST {
+    if end <= LONGEST_ANSWER {
         io::write_all(1, &line[..end]);
     }
 }
