@@ -3,8 +3,7 @@
 use Rattle.units.proofs.Common.{sym, _∙_, _≡_, refl, ap, subst, true, List, [], ℕ, _≤_, _-_, arith, length, getD, isStamp}
 use Rattle.units.specs.declared.Words.{Words}
 use Rattle.units.specs.declared.stamp.Stamp.{Stamp}
-use Rattle.meaning.proofs.Terms.{full, hub, overall, Gateway, setReader, Outcome, answered, Local, Desk, quiet, fromDesk, lifted, settled}
-use Rattle.meaning.proofs.Terms.{obeyed, looked, governed}
+use Rattle.meaning.proofs.Terms.{full, hub, overall, Gateway, setReader, Local, quiet, lifted, settled, obeyed, looked, governed}
 use Rattle.meaning.specs.Gateway as M
 use Rattle.meaning.specs.declared.table.Kind.{Kind}
 use Rattle.meaning.specs.declared.packet.Command.{Command}
@@ -16,7 +15,7 @@ use Rattle.state.specs.declared.Name.{Name}
 use Rattle.state.specs.declared.State.{State}
 use Rattle.state.proofs.Lists.{getD-any}
 use Rattle.state.proofs.Read.{blank}
-use Rattle.promise.specs.Obeyed.{spoken, Does}
+use Rattle.promise.specs.Obeyed.{saidOf}
 use Rattle.promise.specs.declared.Reply.{Reply}
 use Rattle.promise.proofs.Parts.{parts}
 use Rattle.promise.proofs.Tables.{reader-node, reader-slot, node-hub}
@@ -30,10 +29,10 @@ use Rattle.orders.specs.Decided.{Readable, Suits, quietly, Obeys, Looks, decide
 use Rattle.orders.specs.declared.Decided.{Decided}
 use Rattle.orders.specs.declared.Change.{Change}
 use Rattle.orders.proofs.Looking.{look-quiet}
-use Rattle.desk.specs.Ruled.{titleOf, ToldOf, Governable, Governs}
+use Rattle.desk.specs.Ruled.{titleOf, LimitedOf, Governable, Governs}
 use Rattle.desk.specs.Ruled as D
 use Rattle.desk.specs.declared.Ruled.{Ruled}
-use Rattle.settle.specs.Settled.{Seat, seated, Seatable, Seats, Settles, seating, memoryAfter, housed, Houseable, Houses, housing}
+use Rattle.settle.specs.Settled.{Seat, Seatable, Seats, Settles, seating, memoryAfter, Houseable, Houses, housing}
 use Rattle.settle.specs.declared.Seated.{Seated}
 use Rattle.settle.specs.declared.Housed.{Housed}
 use Rattle.settle.proofs.Seating.{Lent, lent-is, lent-long, memory-long, still, kept-back}
@@ -78,12 +77,7 @@ module _ {n : ℕ} {own : Node} {x : Reader} {held : List Words} {store memory :
     ordered-is t k c e ws {answer} {d} v =
         let bs : List ℕ = loadOf full c ws in
         ap (λ (i : ℕ). settled full g (lifted (setReader i) i g (obeyed i (g .nodes i) t k c bs (g .reader i)))) e
-        ∙ ap (λ (l : Local M.Reader). settled full g (lifted (setReader n) n g l))
-        (sym (obeyed-count n (g .nodes n) t c bs (g .reader n) k)
-        ∙ ap (λ (i : ℕ). obeyed n (bare i) t k c bs (g .reader n)) count
-        ∙ ap (obeyed n (bare (own .instance)) t k c bs) own-reader
-        ∙ ap (λ (i : ℕ). obeyed i (bare (own .instance)) t k c bs (readerOf x (Lent n (a .is) memory (memory-long a)))) (sym e)
-        ∙ sym (by-region ws answer d (v .same)))
+        ∙ rw (by-region ws answer d (v .same), ← (obeyed-count n (g .nodes n) t c bs (g .reader n) k), count, own-reader, e)
 
     abbrev look : Stamp → ℕ → Local M.Reader
     look t clock = looked n (g .nodes n) t clock (g .reader n) (g .reader n .field) (g .reader n .mode)
@@ -94,25 +88,20 @@ module _ {n : ℕ} {own : Node} {x : Reader} {held : List Words} {store memory :
         ≡ look t clock
     unfolding readerOf
     look-is t clock =
-        let lent : List ℕ = Lent n (a .is) memory (memory-long a) in
-        ap (λ (r : M.Reader). looked n (bare (own .instance)) t clock r (r .field) (r .mode)) (sym own-reader)
-        ∙ ap (λ (i : ℕ). looked n (bare i) t clock (g .reader n) (g .reader n .field) (g .reader n .mode)) (sym count)
-        ∙ looked-count n (g .nodes n) t clock (g .reader n) (g .reader n .field) (g .reader n .mode)
+        rw (← (looked-count n (g .nodes n) t clock (g .reader n) (g .reader n .field) (g .reader n .mode)), count, own-reader)
 
     looking-is : (t : Stamp) (clock : ℕ) {answer : List ℕ} {d : Decided}
         → Looks full (own .instance) n t clock x (Lent n (a .is) memory (memory-long a)) d answer
         → looking full g n t clock ≡ seating full n d [] answer memory g
     unfolding looking
-    looking-is t clock {answer} {d} v =
-        ap (λ (l : Local M.Reader). settled full g (lifted (setReader n) n g l))
-        (sym (look-is t clock) ∙ sym (by-region [] answer d (v .serves .same)))
+    looking-is t clock {answer} {d} v = rw (← (look-is t clock), by-region [] answer d (v .serves .same))
 
     quiet-is : (t : Stamp) (clock : ℕ) → quietly x clock ≡ true → look t clock ≡ Local.give quiet (g .reader n)
     quiet-is t clock q =
         sym (look-is t clock) ∙ look-quiet (own .instance) clock n t x (Lent n (a .is) memory (memory-long a)) q ∙ ap (Local.give quiet)
         (sym own-reader)
 
-  pub suited : (ws : List ℕ) (c : Change) → Suits c ws (length (Lent n (a .is) memory (memory-long a))) → Suits c ws 1024
+  pub suited : (ws : List ℕ) (c : Change) → Suits c ws (length (Lent n (a .is) memory (memory-long a))) → Suits c ws (full .region)
   suited ws c h = subst (Suits c ws) (lent-long n (a .is) memory (memory-long a)) h
 
   -- ---- as `obeyed` and `looked` promise it
@@ -121,64 +110,48 @@ module _ {n : ℕ} {own : Node} {x : Reader} {held : List Words} {store memory :
       → (r : Seated) {store′ memory′ : List ℕ} → Settles full n own x held d answer store r store′
       → memory′ ≡ memoryAfter full n (r .reply) (d .change) ws memory
       → Seats full (λ g. ordered full g t k c (loadOf full c ws)) n own x held store memory r store′ memory′
-  obeys t k c e ws {answer} {d} v r {store′} {memory′} q z s at fit =
-      subst (λ (l : List ℕ). Does full (ordered full (meaning full (machine s store memory)) t k c (loadOf full c ws))
-      (machine s store memory) (spoken (r .reply))
-      (machine (seated s n r) store′ l)) (sym z)
-      (subst (λ (o : Outcome). Does full o (machine s store memory) (spoken (r .reply))
-      (machine (seated s n r) store′ (memoryAfter full n (r .reply) (d .change) ws memory)))
-      (sym (ordered-is s at fit t k c e ws v)) (q ws memory (suited ws (d .change) (v .suits)) s at fit))
+  obeys t k c e ws {d = d} v r q z s at fit =
+      rw (z, ordered-is s at fit t k c e ws v) (q ws memory (suited ws (d .change) (v .suits)) s at fit)
 
   pub looks : (t : Stamp) (clock : ℕ) {answer : List ℕ} {d : Decided}
       → Looks full (own .instance) n t clock x (Lent n (a .is) memory (memory-long a)) d answer
       → (r : Seated) {store′ : List ℕ} → Settles full n own x held d answer store r store′
       → Seats full (λ g. looking full g n t clock) n own x held store memory r store′ memory
-  looks t clock {answer} {d} v r {store′} q s at fit =
+  looks t clock {d = d} v r q s at fit =
       let kept : memoryAfter full n (r .reply) (d .change) [] memory ≡ memory =
-      ap (λ (c : Change). memoryAfter full n (r .reply) c [] memory) (v .kept) ∙ kept-back n (a .is) memory (memory-long a) [] (r .reply) in
-      subst (λ (l : List ℕ). Does full (looking full (meaning full (machine s store memory)) n t clock) (machine s store memory)
-      (spoken (r .reply))
-      (machine (seated s n r) store′ l)) kept
-      (subst (λ (o : Outcome). Does full o (machine s store memory) (spoken (r .reply))
-      (machine (seated s n r) store′ (memoryAfter full n (r .reply) (d .change) [] memory)))
-      (sym (looking-is s at fit t clock v)) (q [] memory (suited [] (d .change) (v .serves .suits)) s at fit))
+      rw (v .kept) (kept-back n (a .is) memory (memory-long a) [] (r .reply)) in
+      rw (looking-is s at fit t clock v) (rw kept at (q [] memory (suited [] (d .change) (v .serves .suits)) s at fit))
 
   pub looks-quiet : (t : Stamp) (clock : ℕ) → quietly x clock ≡ true
       → Seats full (λ g. looking full g n t clock) n own x held store memory
       (record { node = own; held = held; reader = x; reply = Reply.Quiet }) store memory
-  unfolding spoken looking
+  unfolding saidOf looking
   looks-quiet t clock v s at fit =
       let m : Machine = machine s store memory in
-      subst (λ (k : State). Does full (looking full (meaning full m) n t clock) m (answered quiet) (machine k store memory))
-      (sym (still n own x held s Reply.Quiet at))
+      rw (still n own x held s Reply.Quiet at)
       (giving full m (setReader n) n (quiet-is s at fit t clock v) m (record { fit = fit; means = sym (same-reader (meaning full m) n) }))
 
 -- ---- at the gateway's own node
 module _ {nodes : List Node} {held : List Words} {name : Name} {store : List ℕ} (a : Houseable full nodes held name store) where
-  pub governable : (t : Stamp) (k : Kind) (c : Command) (ws : List ℕ) → isStamp t ≡ true → ToldOf full k c ws → {room : ℕ} → overall 255 ≤
-      room
-      → Governable full t k c ws name room
+  pub governable : (t : Stamp) (k : Kind) (c : Command) (ws : List ℕ) → isStamp t ≡ true → LimitedOf full k c ws → {room : ℕ}
+      → overall 255 ≤ room → Governable full t k c ws name room
   governable t k c ws g o {room} l =
       let p = parts full (machine (a .state) store (a .memory)) (a .fit) in
-      subst (λ (j : Name). Governable full t k c ws j room) (a .house .title)
-      (record { stamp = g; told = o; inOrder = p .name; wide = p .wide; long = l })
+      rw (← (a .house .title)) (record { stamp = g; told = o; inOrder = p .name; wide = p .wide; long = l })
 
   pub houses : (t : Stamp) (k : Kind) (c : Command) (ws : List ℕ) {answer : List ℕ} {d : Ruled}
-      → Governs full (getD nodes 16 blank .instance) name t k c ws d answer
+      → Governs full (getD nodes (full .readers) blank .instance) name t k c ws d answer
       → (r : Housed) {store′ : List ℕ} → Houses full (housing full d answer) nodes held name store r store′
       → Houses full (λ g. heeding full g t k (loadOf full c ws)) nodes held name store r store′
   unfolding heeding meaning
   houses t k c ws {answer} {d} v r {store′} q s memory at fit =
       let m : Machine = machine s store memory in
       let p = parts full m fit in
-      let own : Node = getD nodes 16 blank in
+      let own : Node = getD nodes (full .readers) blank in
       let count : meaning full m .nodes hub .count ≡ own .instance =
-      count-is full m fit hub 16 (node-hub full) refl own
-      (getD-any (s .nodes) 16 freshNode blank (omega (arith, p .eachNode)) ∙ ap (λ (l : List Node). getD l 16 blank) (at .all)) in
+      count-is full m fit hub (full .readers) (node-hub full) refl own
+      (getD-any (s .nodes) (full .readers) freshNode blank (omega (arith, p .eachNode)) ∙ ap
+      (λ (l : List Node). getD l (full .readers) blank) (at .all)) in
       let e : governed (meaning full m .nodes hub) (titleOf (s .name)) t k (loadOf full c ws) ≡ D.decided d answer =
-      sym (governed-count (meaning full m .nodes hub) (titleOf (s .name)) t (loadOf full c ws) k)
-      ∙ ap (λ (i : ℕ). governed (bare i) (titleOf (s .name)) t k (loadOf full c ws)) count
-      ∙ ap (λ (j : Name). governed (bare (own .instance)) (titleOf j) t k (loadOf full c ws)) (at .title) ∙ sym (v .same) in
-      subst (λ (l : Local Desk). Does full (settled full (meaning full m) (lifted fromDesk hub (meaning full m) l)) m (spoken (r .reply))
-      (machine (housed s r) store′ memory))
-      (sym e) (q s memory at fit)
+      rw (← (governed-count (meaning full m .nodes hub) (titleOf (s .name)) t (loadOf full c ws) k), count, at .title) (sym (v .same)) in
+      rw e (q s memory at fit)

@@ -25,7 +25,7 @@ ghost use mathlib.Core.Bool.{true};
 ghost use Rattle.units.specs.Stamp.{isStamp};
 ghost use Rattle.meaning.specs.Bench.{full};
 ghost use Rattle.answers.specs.Ordered.{loadOf, Ready, ordered, heeding, looking};
-ghost use Rattle.desk.specs.Ruled.{ToldOf};
+ghost use Rattle.desk.specs.Ruled.{LimitedOf};
 ghost use Rattle.settle.specs.Settled.{Seatable, Seats, Houseable, Houses};
 
 // An accepted command for a reader.
@@ -115,7 +115,7 @@ pub fn governed(
     words: &[u16],
     store: &mut [u16],
 ) -> Housed
-    requires { ⌜ Houseable full nodes held name (now store) × (isStamp t ≡ true) × ToldOf full kind m (now words) ⌝ }
+    requires { ⌜ Houseable full nodes held name (now store) × (isStamp t ≡ true) × LimitedOf full kind m (now words) ⌝ }
     ensures { λ r. ⌜ Houses full (λ g. heeding full g t kind (loadOf full m (now (words .entry)))) nodes held name (now (store .entry)) r
         (now (store .exit)) ⌝ }
 {

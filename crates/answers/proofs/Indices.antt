@@ -9,20 +9,20 @@ use Rattle.promise.proofs.Parts.{parts}
 use Rattle.promise.proofs.Tables.{reader-range}
 
 -- ---- what `reader_slot` says of a node: past the array, it is no reader; inside, it is one, and this is its index
-module _ (n i : ℕ) (e : i ≡ cond (isReader full n) (n - 1) 16) where
-  pub slot-out : 16 ≤ i → isReader full n ≡ false
-  slot-out h = go (isReader full n) refl e
+module _ (n i : ℕ) (e : i ≡ cond (isReader full n) (n - 1) (full .readers)) where
+  pub slot-out : full .readers ≤ i → isReader full n ≡ false
+  slot-out h = by-test (isReader full n) refl e
     where
-      go : (t : Bool) → isReader full n ≡ t → i ≡ cond t (n - 1) 16 → isReader full n ≡ false
-      go true f p = let r = reader-range full n f in absurd (omega arith)
-      go false f p = f
+      by-test : (t : Bool) → isReader full n ≡ t → i ≡ cond t (n - 1) (full .readers) → isReader full n ≡ false
+      by-test true f p = let r = reader-range full n f in absurd (omega arith)
+      by-test false f p = f
 
-  pub slot-in : i < 16 → (isReader full n ≡ true) × (i ≡ n - 1)
-  slot-in h = go (isReader full n) refl e
+  pub slot-in : i < full .readers → (isReader full n ≡ true) × (i ≡ n - 1)
+  slot-in h = by-reader (isReader full n) refl e
     where
-      go : (t : Bool) → isReader full n ≡ t → i ≡ cond t (n - 1) 16 → (isReader full n ≡ true) × (i ≡ n - 1)
-      go true f p = (f, p)
-      go false f p = absurd (omega arith)
+      by-reader : (t : Bool) → isReader full n ≡ t → i ≡ cond t (n - 1) (full .readers) → (isReader full n ≡ true) × (i ≡ n - 1)
+      by-reader true f p = (f, p)
+      by-reader false f p = absurd (omega arith)
 
 -- ---- what code reads at the index of a reader, of a node; `blankReader` is what it would read past the array's end
 abbrev pub blankReader : Reader

@@ -5,7 +5,7 @@ use Rattle.meaning.proofs.Terms.{Bench, Call, Said, Outcome, step}
 use Rattle.state.proofs.Terms.{Machine, machine, meaning, unfit}
 use Rattle.state.specs.declared.reader.Reader.{Reader}
 use Rattle.state.specs.declared.State.{State}
-use Rattle.promise.specs.Obeyed.{spoken, Does, expected, Obeyed}
+use Rattle.promise.specs.Obeyed.{saidOf, Does, expected, Obeyed}
 use Rattle.promise.specs.declared.Reply.{Reply}
 use Rattle.promise.specs.declared.Called.{Called}
 use Rattle.promise.proofs.Readers.{withReader}
@@ -26,6 +26,6 @@ module _ {b : Bench} {m : Machine} where
 
     -- what is handed back
     pub called : {r : Called} {p : Reply} {s : State} {store memory : List ℕ} → r ≡ record { reply = p; state = s }
-        → Does b o m (spoken p) (machine s store memory) → Does b o m (spoken (r .reply)) (machine (r .state) store memory)
+        → Does b o m (saidOf p) (machine s store memory) → Does b o m (saidOf (r .reply)) (machine (r .state) store memory)
     called {r} {p} {s} {store} {memory} e d =
-        subst (λ (q : Called). Does b o m (spoken (q .reply)) (machine (q .state) store memory)) (sym e) d
+        subst (λ (q : Called). Does b o m (saidOf (q .reply)) (machine (q .state) store memory)) (sym e) d

@@ -1,7 +1,8 @@
 -- A response that may be said is written whole, and is a well-formed response of its node.
 -- Assumes nothing.
-use Rattle.units.proofs.Common.{sym, _∙_, _≡_, refl, ap, true, false, List, ℕ, _≤_, _<_, arith, ltb, length, take, take-at, eq-eqb, le-ltb}
+use Rattle.units.proofs.Common.{sym, _∙_, _≡_, refl, ap, true, List, ℕ, _≤_, _<_, arith, ltb, length, take, take-at, eq-eqb, le-ltb}
 use Rattle.units.proofs.Common.{ltb-false, isStamp, yes-cond, no-or, or-false}
+use Rattle.units.proofs.PackingLaws.{sets-fits}
 use Rattle.units.specs.declared.Form.the-variants.{Register}
 use Rattle.units.specs.declared.stamp.Stamp.{Stamp}
 use Rattle.meaning.proofs.Terms.{full, isNode, overall, writtenOutput, amountWrong, errorWrong, responseBody, bears, shown, shownCount}
@@ -9,7 +10,7 @@ use Rattle.meaning.proofs.Terms.{responseWords, responseOutput, wellFormed}
 use Rattle.meaning.specs.Response.{respondRefusal}
 use Rattle.meaning.specs.declared.packet.Response.{Response}
 use Rattle.meaning.proofs.ResponseLaws.{count-responded, writes, read-responded}
-use Rattle.lists.proofs.Answers.{read-formed}
+use Rattle.lists.proofs.WordsRead.{read-formed}
 use Rattle.answers.specs.Say.{good, Sayable, Says}
 
 module _ (r : Response) (bs : List ℕ) (room : ℕ) (a : Sayable full r (length bs) room) where
@@ -45,6 +46,7 @@ module _ (r : Response) (bs : List ℕ) (room : ℕ) (a : Sayable full r (length
       let q = a .long in
       let same : take k out′ ≡ responseBody r bs =
       ap (take k) (w ∙ yes-cond _ (eq-eqb _ 0 (ap (respondRefusal full Register r (length bs)) l ∙ accepted)))
+      ∙ ap (take k) (sets-fits (responseBody r bs) out (omega (arith, count-responded Register r bs)))
       ∙ take-at (responseBody r bs) _ k (count-responded Register r bs ∙ sym c) in
       record { inside = omega arith; words = same; formed = ap (wellFormed full (r .node)) same ∙ formed e n }
 

@@ -7,7 +7,7 @@ use Rattle.meaning.proofs.Terms.{Bench, Node, Gateway, fresh, put, setNode, tak
 use Rattle.meaning.proofs.Terms.{atHub, Whom, named, whom, Try, lifted, heeded, tried, Said, refused, answered, queued, Outcome, step}
 use Rattle.demands.proofs.Local.{cond-all}
 use Rattle.listing.specs.Records.{plaqueNode, plaqueId, plaqueBytes}
-use Rattle.demands.specs.Counts.{answerOf}
+use Rattle.demands.specs.Counts.{answerDue}
 use Rattle.state.proofs.Terms.{Machine, meaning, unfit}
 use Rattle.promise.specs.Obeyed.{Does}
 use Rattle.promise.proofs.Steps.{acknowledge-0}
@@ -29,12 +29,12 @@ Undue (Try.due n h w) = ⊥
 
 arrive-undue : (b : Bench) (g : Gateway) (n : ℕ) (id s : List ℕ) → Undue (tried b g (arrive n id s))
 unfolding tried heeded atReader atHub lifted Undue
-arrive-undue b g n id s = cond-all Undue (eqb (judged b (arrive n id s)) 0) _ _ (go (whom b (arrive n id s))) tt
+arrive-undue b g n id s = cond-all Undue (eqb (judged b (arrive n id s)) 0) _ _ (by-whom (whom b (arrive n id s))) tt
   where
-    go : (v : Whom) → Undue (heeded b g (arrive n id s) v)
-    go Whom.nobody = tt
-    go Whom.gateway = tt
-    go (Whom.one k) = tt
+    by-whom : (v : Whom) → Undue (heeded b g (arrive n id s) v)
+    by-whom Whom.nobody = tt
+    by-whom Whom.gateway = tt
+    by-whom (Whom.one k) = tt
 
 pub none-arrived : (b : Bench) (g : Gateway) (bs : List ℕ) → NonePending g → NonePending (arrived b g bs)
 unfolding arrived Undue
@@ -46,15 +46,15 @@ none-arrived b g bs z =
 pub turn-none : (b : Bench) (g : Gateway) (t : Stamp) (ws : List ℕ) → ((step b g (command t Register ws)) .said ≡ queued → ⊥)
     → NonePending g → NonePending (turn b g t ws .after)
 unfolding turn heard
-turn-none b g t ws q z = go ((step b g c) .said) refl
+turn-none b g t ws q z = by-said ((step b g c) .said) refl
   where
     c : Call
     c = command t Register ws
 
-    go : (s : Said) → (step b g c) .said ≡ s → NonePending (heard b (named c) ((step b g c) .next) s .after)
-    go (refused k) e = step-none b g c q z
-    go (answered r) e = step-none b g c q z
-    go queued e = absurd (q e)
+    by-said : (s : Said) → (step b g c) .said ≡ s → NonePending (heard b (named c) ((step b g c) .next) s .after)
+    by-said (refused k) e = step-none b g c q z
+    by-said (answered r) e = step-none b g c q z
+    by-said queued e = absurd (q e)
 
 -- ---- one that was queued, on a consistent machine
 module _ (b : Bench) (m m′ : Machine) (t : Stamp) (ws : List ℕ) (fits : unfit b m ≡ 0) (none : NonePending (meaning b m)) where
@@ -82,8 +82,8 @@ module _ (b : Bench) (m m′ : Machine) (t : Stamp) (ws : List ℕ) (fits : unfi
         ∙ made .only none k
 
     -- its line is that of the answer that was due to it; and when that is acknowledged, none is pending again
-    pub turn-answer : (turn b g t ws .line ≡ wordsLine (answerOf (tried b g c))) × NonePending (turn b g t ws .after)
-    unfolding turn heard answerOf taken
+    pub turn-answer : (turn b g t ws .line ≡ wordsLine (answerDue (tried b g c))) × NonePending (turn b g t ws .after)
+    unfolding turn heard answerDue taken
     turn-answer =
         let k = took fits d in
         let n : ℕ = named c in
@@ -104,7 +104,7 @@ module _ (b : Bench) (m m′ : Machine) (t : Stamp) (ws : List ℕ) (fits : unfi
         ∙ handed-over b n m′ h in
         let q : (step b (meaning b m′) (acknowledge n number)) .next ≡ setNode n (taken (meaning b m′ .nodes n)) (meaning b m′) =
         ap (λ (o : Outcome). o .next) (acknowledge-0 b (meaning b m′) n number (made .node) w vs first (eq-eqb number number refl)) in (
-          ap (λ (o : Turn). o .line) o ∙ ap wordsLine (own ∙ sym (ap answerOf (made .due))),
+          ap (λ (o : Turn). o .line) o ∙ ap wordsLine (own ∙ sym (ap answerDue (made .due))),
           subst NonePending (sym (ap (λ (o : Turn). o .after) o ∙ q))
               (set-none n (taken (meaning b m′ .nodes n)) (meaning b m′) (ap (drop 1) first ∙ last) others),
         )

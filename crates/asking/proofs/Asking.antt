@@ -14,7 +14,7 @@ use Rattle.state.proofs.Terms.{freshNode, Machine, machine, meaning, nodeSlot, 
 use Rattle.state.specs.declared.node.Node.{Node}
 use Rattle.state.specs.declared.State.{State}
 use Rattle.state.proofs.Read.{blank, node-any}
-use Rattle.promise.specs.Obeyed.{spoken, Does}
+use Rattle.promise.specs.Obeyed.{saidOf, Does}
 use Rattle.promise.specs.declared.Reply.{Reply}
 use Rattle.promise.proofs.Promises.{saying, by-step}
 use Rattle.promise.proofs.Steps.{collect-0, acknowledge-0}
@@ -29,7 +29,7 @@ use Rattle.handover.specs.Handed as H
 use Rattle.text.specs.Text.{Put, wordsLine}
 use Rattle.text.proofs.Writing.{length-words, put-as}
 use Rattle.listing.specs.Lines.{refusedLine}
-use Rattle.listing.specs.Listing.{Turn, wordsIn, handoverIn, handedOver, heard, turn}
+use Rattle.listing.specs.Listing.{Turn, wordsHanded, handoverIn, handedOver, heard, turn}
 use Rattle.listingout.proofs.Rooms.{refused-short}
 use Rattle.asking.specs.Ask.{longest, longestLine, Waiting, HandsOver, Plays}
 use Rattle.asking.specs.declared.Handed.{Handed}
@@ -74,32 +74,32 @@ module _ (b : Bench) (n : ℕ) (m : Machine) where
   -- the turn's line, and the acknowledgement after it
   pub handed-over : {w : List ℕ} → Hands w
       → handedOver b n (meaning b m) ≡ record { line = wordsLine w; after = (step b (meaning b m) (acknowledge n number)) .next }
-  unfolding handedOver wordsIn handoverIn
+  unfolding handedOver wordsHanded handoverIn
   handed-over h =
       let over : Outcome → Turn = λ o. record {
-        line = wordsLine (wordsIn (o .said));
+        line = wordsLine (wordsHanded (o .said));
         after = (step b (o .next) (acknowledge n (handoverIn (o .said)))) .next;
       } in
       ap over (h .gives longest (omega arith))
 
 -- ---- a command's turn: the line that code wrote, and the machine that it left
 module _ (b : Bench) (m m′ : Machine) (t : Stamp) (ws : List ℕ) (fits : unfit b m ≡ 0) (reply : Reply)
-    (d : Does b (step b (meaning b m) (command t Register ws)) m (spoken reply) m′) where
+    (d : Does b (step b (meaning b m) (command t Register ws)) m (saidOf reply) m′) where
   abbrev c : Call
   c = command t Register ws
 
   -- by what was said of it
-  said-is : (s : Said) → spoken reply ≡ s → (step b (meaning b m) c) .said ≡ s
+  said-is : (s : Said) → saidOf reply ≡ s → (step b (meaning b m) c) .said ≡ s
   said-is s e = sym (d .says) ∙ e
 
-  turn-said : (s : Said) → spoken reply ≡ s → turn b (meaning b m) t ws ≡ heard b (named c) (meaning b m′) s
+  turn-said : (s : Said) → saidOf reply ≡ s → turn b (meaning b m) t ws ≡ heard b (named c) (meaning b m′) s
   unfolding turn
   turn-said s e =
       ap (heard b (named c) ((step b (meaning b m) c) .next)) (said-is s e)
       ∙ ap (λ (g : Gateway). heard b (named c) g s) (sym (took fits d .means))
 
   -- no answer was made
-  plays-none : (s : Said) → spoken reply ≡ s → (l : List ℕ) → heard b (named c) (meaning b m′) s ≡ record { line = l; after = meaning b m′ }
+  plays-none : (s : Said) → saidOf reply ≡ s → (l : List ℕ) → heard b (named c) (meaning b m′) s ≡ record { line = l; after = meaning b m′ }
       → length l ≤ longestLine → {old new : List ℕ} {to at : ℕ} → Put old to l new at → Plays b (turn b (meaning b m) t ws) m′ old to new at
   plays-none s e l h few {old} {new} {to} {at} p =
       subst (λ (o : Turn). Plays b o m′ old to new at) (sym (turn-said s e ∙ h))
@@ -107,13 +107,13 @@ module _ (b : Bench) (m m′ : Machine) (t : Stamp) (ws : List ℕ) (fits : unfi
 
   pub plays-refused : Sound b → (k : ℕ) → reply ≡ Reply.Refused k → {old new : List ℕ} {to at : ℕ} → Put old to (refusedLine k) new at
       → Plays b (turn b (meaning b m) t ws) m′ old to new at
-  unfolding spoken heard
+  unfolding saidOf heard
   plays-refused ok k e =
-      let n = refused-numbers b ok (meaning b m) c k (said-is (refused k) (ap spoken e)) in
-      plays-none (refused k) (ap spoken e) (refusedLine k) refl (omega (arith, refused-short k (omega (arith, n .1))))
+      let n = refused-numbers b ok (meaning b m) c k (said-is (refused k) (ap saidOf e)) in
+      plays-none (refused k) (ap saidOf e) (refusedLine k) refl (omega (arith, refused-short k (omega (arith, n .1))))
 
   -- (of a command nothing else is said: its line would be empty)
-  pub plays-answered : (x : Result) → spoken reply ≡ answered x → (old : List ℕ) (to : ℕ)
+  pub plays-answered : (x : Result) → saidOf reply ≡ answered x → (old : List ℕ) (to : ℕ)
       → Plays b (turn b (meaning b m) t ws) m′ old to old to
   unfolding heard
   plays-answered x e old to = plays-none (answered x) e [] refl (omega arith) (record { next = omega arith; wrote = refl })
@@ -121,9 +121,9 @@ module _ (b : Bench) (m m′ : Machine) (t : Stamp) (ws : List ℕ) (fits : unfi
   -- an answer was queued: it waits at the node that the packet names, and its words are the line
   module _ (e : reply ≡ Reply.Queued) (n i : ℕ) (is : n ≡ named c) (at : nodeSlot b n ≡ i) {own : Node} {held : List Words}
       (s : H.Slot i own held (m′ .state)) where
-    queued-is : spoken reply ≡ queued
-    unfolding spoken
-    queued-is = ap spoken e
+    queued-is : saidOf reply ≡ queued
+    unfolding saidOf
+    queued-is = ap saidOf e
 
     waiting : Waiting b n m′
     waiting =

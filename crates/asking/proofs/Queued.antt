@@ -20,11 +20,11 @@ swept-none resetting x e = ap (λ (ws : List (List ℕ)). (emptied x ws) .pendin
 pub set-none : (n : ℕ) (x : Node) (g : Gateway) → x .pending ≡ [] → ((k : ℕ) → (k ≡ n → ⊥) → g .nodes k .pending ≡ []) → NonePending
     (setNode n x g)
 unfolding put
-set-none n x g e z k = go (eqb k n) refl
+set-none n x g e z k = by-node (eqb k n) refl
   where
-    go : (t : Bool) → eqb k n ≡ t → (cond t x (g .nodes k)) .pending ≡ []
-    go true q = e
-    go false q = z k (eqb-false k n q)
+    by-node : (t : Bool) → eqb k n ≡ t → (cond t x (g .nodes k)) .pending ≡ []
+    by-node true q = e
+    by-node false q = z k (eqb-false k n q)
 
 -- ---- room aside
 -- what a call that names node n comes to
@@ -99,14 +99,14 @@ module _ (b : Bench) (g : Gateway) (c : Call) (q : (step b g c) .said ≡ queued
 -- a call that has no answer leaves none pending where none was
 pub step-none : (b : Bench) (g : Gateway) (c : Call) → ((step b g c) .said ≡ queued → ⊥) → NonePending g → NonePending ((step b g c) .next)
 unfolding step settled roomed TriedT
-step-none b g c q z = go (tried b g c) (tried-is b g c) q
+step-none b g c q z = by-try (tried b g c) (tried-is b g c) q
   where
     due : (n : ℕ) (h : Gateway) (w : List ℕ) (t : Bool) → ((roomed t g (join n w h)) .said ≡ queued → ⊥) → NonePending
         ((roomed t g (join n w h)) .next)
     due n h w true f = absurd (f refl)
     due n h w false f = z
 
-    go : (t : Try) → TriedT b c g t → ((settled b g t) .said ≡ queued → ⊥) → NonePending ((settled b g t) .next)
-    go (Try.refuse k) p f = z
-    go (Try.give r h) p f = p z
-    go (Try.due n h w) p f = due n h w (fits b n (join n w h)) f
+    by-try : (t : Try) → TriedT b c g t → ((settled b g t) .said ≡ queued → ⊥) → NonePending ((settled b g t) .next)
+    by-try (Try.refuse k) p f = z
+    by-try (Try.give r h) p f = p z
+    by-try (Try.due n h w) p f = due n h w (fits b n (join n w h)) f

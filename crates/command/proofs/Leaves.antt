@@ -1,7 +1,7 @@
 -- What the small tests of the reader and the writer rest on.
 -- Assumes nothing.
-use Rattle.units.proofs.Common.{sym, _∙_, _≡_, refl, ap, true, false, Bool, not, List, [], _∷_, ℕ, eqb, leb, ltb, T, eq-eqb, ne-eqb}
-use Rattle.units.proofs.Common.{leb-true, le-ltb, lt-ltb, keys}
+use Rattle.units.proofs.Common.{_∙_, _≡_, refl, ap, true, false, Bool, not, List, [], _∷_, ℕ, eqb, leb, ltb, T, leb-true, le-ltb, lt-ltb}
+use Rattle.units.proofs.Common.{keys}
 use types.Run.{OneOf}
 use denote.Enum.Declared.{tagOf}
 use borrow.Author.Tests.{leb-false}
@@ -18,13 +18,6 @@ use Rattle.meaning.proofs.table.Kind.{the-type}
 use Rattle.meaning.specs.declared.table.Kind.the-variants.{Plaque, Continuous, ResetReader, Gateway, Unknown}
 use Rattle.meaning.specs.declared.table.OnPlaque.{OnPlaque}
 use Rattle.meaning.specs.declared.table.OfGateway.{OfGateway}
-
--- a test `!=` on a call's result, said of what the result is
-pub differs : {r x : ℕ} (k : ℕ) → r ≡ x → (r ≡ k → ⊥) → not (eqb x k) ≡ true
-differs {r} {x} k e d = ap not (ne-eqb x k (λ q. d (e ∙ q)))
-
-pub agrees : {r x : ℕ} (k : ℕ) → r ≡ x → r ≡ k → not (eqb x k) ≡ false
-agrees {r} {x} k e f = ap not (eq-eqb x k (sym e ∙ f))
 
 -- the code says `high < value` where the definition denies `value ≤ high`
 pub ltb-not-leb : (a b : ℕ) → ltb a b ≡ not (leb b a)

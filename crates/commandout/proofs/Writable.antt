@@ -1,19 +1,13 @@
 -- What is known of a command that is written: its words' count, and that they fit.
 -- Assumes nothing.
-use Rattle.units.proofs.Common.{sym, _≡_, ap, subst, List, _++_, ℕ, _≤_, arith, length, drop}
+use Rattle.units.proofs.Common.{sym, _≡_, subst, ℕ, _≤_, arith}
 use Rattle.units.specs.declared.Form.{Form}
 use Rattle.meaning.proofs.Terms.{Bench, rowOf, carries, carried, headedCount}
-use Rattle.meaning.specs.Command.{commandWords, writeRefusal}
+use Rattle.meaning.specs.Command.{writeRefusal}
 use Rattle.meaning.specs.declared.table.Load.{Load}
 use Rattle.meaning.specs.declared.table.Load.the-variants.{Nothing, One, Size}
 use Rattle.meaning.specs.declared.packet.Command.{Command}
 use Rattle.meaning.proofs.CommandLaws as L
-use Rattle.meaning.proofs.CommandLaws.{count-words}
-
--- what stays behind the words, counted by the data
-pub behind : (f : Form) (m : Command) (bs out : List ℕ)
-    → commandWords f m bs ++ drop (headedCount f (length bs)) out ≡ commandWords f m bs ++ drop (length (commandWords f m bs)) out
-behind f m bs out = ap (λ (k : ℕ). commandWords f m bs ++ drop k out) (sym (count-words f m bs))
 
 -- a word says how much a command carries, so it is never more than a word can say
 carries-le : (l : Load) (n : ℕ) → n ≤ 65535 → carries l n ≤ 65535

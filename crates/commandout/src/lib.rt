@@ -16,7 +16,8 @@ use units::packing::word;
 ghost use mathlib.Core.Path.{_≡_};
 ghost use mathlib.Core.List.{_++_};
 ghost use Prim.Native.Nat.{_≤_};
-ghost use lib.ListN.{length, drop};
+ghost use lib.ListN.{length};
+ghost use lib.Seq.{sets};
 ghost use Rattle.meaning.specs.Refusal.{refusal};
 ghost use Rattle.meaning.specs.Bench.{full};
 ghost use Rattle.meaning.specs.Packet.{overall};
@@ -70,8 +71,7 @@ fn write_refusal(form: Form, m: Command, amount: usize, room: usize) -> u8
 fn put_body(m: Command, bytes: &[u8], out: &mut [u16])
     requires { ⌜ overall (length (now bytes)) ≤ length (now out) ⌝ }
     requires { ⌜ length (now bytes) ≤ 65535 ⌝ }
-    ensures { λ _. ⌜ now (out .exit) ≡ commandBody m (now (bytes .entry)) ++ drop (overall (length (now (bytes .entry))))
-        (now (out .entry)) ⌝ }
+    ensures { λ _. ⌜ now (out .exit) ≡ sets (now (out .entry)) 0 (commandBody m (now (bytes .entry))) ⌝ }
 {
     out[0] = overall(Bytes(bytes.len() as u16)).0;
     out[1] = word(0xAA, m.command);
@@ -86,8 +86,7 @@ fn put_body(m: Command, bytes: &[u8], out: &mut [u16])
 fn put_words(form: Form, m: Command, bytes: &[u8], out: &mut [u16])
     requires { ⌜ headedCount form (length (now bytes)) ≤ length (now out) ⌝ }
     requires { ⌜ length (now bytes) ≤ 65535 ⌝ }
-    ensures { λ _. ⌜ now (out .exit) ≡ commandWords form m (now (bytes .entry)) ++ drop
-        (length (commandWords form m (now (bytes .entry)))) (now (out .entry)) ⌝ }
+    ensures { λ _. ⌜ now (out .exit) ≡ sets (now (out .entry)) 0 (commandWords form m (now (bytes .entry))) ⌝ }
 {
     match form {
         Form::Register => {

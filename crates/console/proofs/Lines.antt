@@ -1,6 +1,6 @@
 -- A line has a byte at least: its line feed, or where it is the last and lacks it, one before it.
 -- Assumes nothing.
-use Rattle.units.proofs.Common.{_≡_, refl, true, false, Bool, cond, List, [], _∷_, ℕ, _≤_, suc, arith, eqb, length}
+use Rattle.units.proofs.Common.{true, false, Bool, cond, List, [], _∷_, ℕ, _≤_, suc, arith, eqb, length}
 use Rattle.dialog.specs.Fields.{before}
 use Rattle.dialog.specs.Dialog.{linesOf}
 

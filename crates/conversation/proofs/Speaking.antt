@@ -1,12 +1,11 @@
 -- A line played at its own list, at its reader or at the gateway: its parts are taken out of a consistent machine, and put back.
 -- Assumes nothing.
-use Rattle.units.proofs.Common.{sym, _∙_, _≡_, refl, ap, true, cond, List, ℕ, _≤_, _-_, _+_, _<_, arith, length, getD, set, onto, yes-cond}
-use Rattle.units.proofs.Common.{length-onto}
-use Rattle.meaning.proofs.Terms.{full, isReader, isNode, Call, command, step}
-use Rattle.state.proofs.Terms.{Machine, machine, meaning, nodeSlot, unfit}
-use Rattle.state.specs.declared.State.{State}
+use Rattle.units.proofs.Common.{sym, _∙_, _≡_, refl, true, cond, List, ℕ, _≤_, _-_, _+_, _<_, arith, getD, set, yes-cond}
+use Rattle.meaning.proofs.Terms.{full, isReader, isNode, Call, step}
+use Rattle.meaning.specs.Bench.{nodeCount}
+use Rattle.state.proofs.Terms.{Machine, machine, nodeSlot, unfit}
 use Rattle.state.proofs.Read.{blank}
-use Rattle.promise.specs.Obeyed.{spoken}
+use Rattle.promise.specs.Obeyed.{saidOf}
 use Rattle.promise.proofs.Tables.{node-inside}
 use Rattle.answers.proofs.Indices.{blankReader}
 use Rattle.store.specs.Changes.{withLists}
@@ -15,34 +14,24 @@ use Rattle.settle.specs.declared.Seated.{Seated}
 use Rattle.settle.specs.declared.Housed.{Housed}
 use Rattle.obey.proofs.Taking.{seats-here, houses-here}
 use Rattle.handover.specs.Handed.{Slot, Listable}
-use Rattle.handover.proofs.Served.{Found, found}
+use Rattle.handover.proofs.Served.{found}
 use Rattle.text.specs.Text.{Put}
 use Rattle.dialog.specs.Spoken as D
-use Rattle.dialog.specs.Dialog.{saidLine}
+use Rattle.dialog.specs.Dialog.{saidLine, longestAnswer}
 use Rattle.talk.specs.Talk.{Plays}
-use Rattle.talk.specs.Aim.{wanted, TellsAt}
-use Rattle.talk.specs.declared.aim.Want.{Want}
+use Rattle.talk.specs.Parts.{wanted, TellsAt}
+use Rattle.aiming.specs.declared.Want.{Want}
 use Rattle.talk.specs.declared.ListTold.{ListTold}
 use Rattle.talk.proofs.Talking.{plays-call}
 
--- ---- a buffer after a line was read
-pub onto-long : (xs old : List ℕ) {new : List ℕ} {n : ℕ} → new ≡ onto xs old → length old ≡ n → length new ≡ n
-onto-long xs old e h = ap length e ∙ length-onto xs old ∙ h
-
--- ---- a line played, by the values that the code then has
-pub plays-as : {m : Machine} {line old : List ℕ} {to : ℕ} {s s₁ : State} {store store₁ memory memory₁ new new₁ : List ℕ} {end end₁ : ℕ}
-    → store ≡ store₁ → memory ≡ memory₁ → new ≡ new₁ → s ≡ s₁ → end ≡ end₁ → Plays full m line old to new₁ end₁ (machine s₁ store₁ memory₁)
-    → Plays full m line old to new end (machine s store memory)
-plays-as e f g h i p = rw (e, f, g, h, i) p
-
 module _ (m : Machine) (fit : unfit full m ≡ 0) where
   -- ---- at the list of node n, whose index the code has looked up
-  module _ (n i : ℕ) (is : isNode full n ≡ true) (e : i ≡ cond (isNode full n) (nodeSlot full n) 17) where
+  module _ (n i : ℕ) (is : isNode full n ≡ true) (e : i ≡ cond (isNode full n) (nodeSlot full n) (nodeCount full)) where
     slot-is : nodeSlot full n ≡ i
-    slot-is = sym (e ∙ yes-cond 17 is)
+    slot-is = sym (e ∙ yes-cond (nodeCount full) is)
 
-    pub list-inside : i < 17
-    list-inside = omega (arith, slot-is, node-inside full n 17 is refl)
+    pub list-inside : i < nodeCount full
+    list-inside = omega (arith, slot-is, node-inside full n (nodeCount full) is refl)
 
     slot : Slot i (getD (m .state .nodes) i blank) (m .state .held) (m .state)
     slot = record { node = found m fit n i e list-inside .at; helds = refl }
@@ -63,7 +52,7 @@ module _ (m : Machine) (fit : unfit full m ≡ 0) where
       → Seats full (λ g. step full g c) n (getD (m .state .nodes) i blank) (getD (m .state .readers) i blankReader) (m .state .held)
       (m .store)
       (m .memory) r store′ memory′
-      → Put old to (saidLine (spoken (r .reply))) new end → end ≤ to + 691
+      → Put old to (saidLine (saidOf (r .reply))) new end → end ≤ to + longestAnswer
       → Plays full m line old to new end (machine (record {
         name = m .state .name;
         readers = set (m .state .readers) i (r .reader);
@@ -75,6 +64,6 @@ module _ (m : Machine) (fit : unfit full m ≡ 0) where
   -- ---- a command of the gateway's own
   pub hub-plays : (c : Call) {line old new store′ : List ℕ} {to end : ℕ} (r : Housed) → D.spoken line ≡ D.call c
       → Houses full (λ g. step full g c) (m .state .nodes) (m .state .held) (m .state .name) (m .store) r store′
-      → Put old to (saidLine (spoken (r .reply))) new end → end ≤ to + 691
+      → Put old to (saidLine (saidOf (r .reply))) new end → end ≤ to + longestAnswer
       → Plays full m line old to new end (machine (housed (m .state) r) store′ (m .memory))
   hub-plays c r s d p h = plays-call c s (houses-here m fit (λ g. step full g c) r d) p h

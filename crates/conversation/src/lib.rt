@@ -1,4 +1,6 @@
 // The console's lines played: those of an input on a machine that is known to be consistent, and a whole conversation with a fresh gateway.
+use aiming::Whom;
+use aiming::aim;
 use answers::slots::node_slot;
 use dialogout::LONGEST_ANSWER;
 use dialogout::put_said;
@@ -9,8 +11,6 @@ use lines::LONGEST_PLAQUE;
 use lines::MOST_WORDS;
 use lines::read_line;
 use state::State;
-use talk::aim::Whom;
-use talk::aim::aim;
 use talk::at_hub;
 use talk::at_list;
 use talk::at_reader;
@@ -56,10 +56,14 @@ pub fn speak(
     while from < input.len() {
         let end = line_end(input, from);
         let heard = read_line(&input[from..end], &mut packet, &mut id, &mut content);
+        from = end + 1;
+        let words = &packet[..];
         let held = s.held;
-        match aim(heard, &packet) {
+        // Each way around ends its own turn.
+        match aim(heard, words) {
             Whom::Nobody(aside) => {
                 to = put_aside(out, to, aside, store);
+                continue;
             }
             Whom::List(node, want) => {
                 let i = node_slot(node);
@@ -70,6 +74,7 @@ pub fn speak(
                 s.nodes[i] = after;
                 s.held = hs;
                 to = r.at;
+                continue;
             }
             Whom::Reader(node, ask) => {
                 let i = (node - 1) as usize;
@@ -81,7 +86,7 @@ pub fn speak(
                     x,
                     held,
                     ask,
-                    &packet,
+                    words,
                     &id,
                     &content,
                     store,
@@ -95,11 +100,12 @@ pub fn speak(
                 s.held = hs;
                 s.readers[i] = reader;
                 to = put_said(out, to, reply);
+                continue;
             }
             Whom::Gateway(order) => {
                 let nodes = s.nodes;
                 let name = s.name;
-                let r = at_hub(nodes, held, name, order, &packet, store);
+                let r = at_hub(nodes, held, name, order, words, store);
                 let ns = r.nodes;
                 let hs = r.held;
                 let title = r.name;
@@ -108,9 +114,9 @@ pub fn speak(
                 s.held = hs;
                 s.name = title;
                 to = put_said(out, to, reply);
+                continue;
             }
         }
-        from = end + 1;
     }
     Spoken { state: s, at: to }
 }

@@ -12,7 +12,7 @@ use Rattle.state.specs.declared.node.Node.{Node}
 use Rattle.state.proofs.Lists.{both}
 use Rattle.state.proofs.Read.{first-word, length-laid, nodeFor, Packed}
 use Rattle.placed.specs.Machine.{answerAt, startsOf, pendingOf, nodeOf}
-use Rattle.placed.specs.Consistent.{okAnswer, overlap, clearOf, spots, inOrder, fineLists, heldsOf, counted, listClear, listsOk}
+use Rattle.placed.specs.Consistent.{okAnswer, overlap, clearOf, spots, inOrder, fineLists, heldsOf, countRight, listClear, listsOk}
 use Rattle.placed.proofs.InOrder.{helds-mean}
 use Rattle.convert.specs.Convert.{oldNodes}
 
@@ -130,8 +130,8 @@ module _ (b : Bench) (x q : List ℕ) where
 
   old-means : (p : List ℕ) (j : ℕ) (ms : List M.Node) → x ≡ p ++ (allLaid ms ++ q) → formed b j ms ≡ true
       → (map (nodeOf x) (oldNodes (length p) (map nodeFor ms) (map heldFor ms)) ≡ ms)
-      × (every (counted x) (oldNodes (length p) (map nodeFor ms) (map heldFor ms)) ≡ true)
-  unfolding oldNodes nodeOf pendingOf allLaid formed every counted
+      × (every (countRight x) (oldNodes (length p) (map nodeFor ms) (map heldFor ms)) ≡ true)
+  unfolding oldNodes nodeOf pendingOf allLaid formed every countRight
   old-means p j [] e f = (refl, refl)
   old-means p j (m ∷ ms) e f =
       let h = and-true (every (wellFormed b (nodeAt b j)) (m .pending)) (formed b (suc j) ms) f in

@@ -9,10 +9,10 @@ use Rattle.promise.specs.Runs as R
 use Rattle.promise.proofs.Chains as NC
 use Rattle.placed.specs.Machine.{Machine, meaning}
 use Rattle.placed.specs.Consistent.{unfit}
-use Rattle.convert.specs.Both.{Does, expected, Heard, Chain, calls, results, newResults}
+use Rattle.convert.specs.Both.{Does, expected, Exchange, Chain, calls, results, newResults}
 
 pub both-layouts : (b : Bench) (m : Machine) (n : N.Machine) → unfit b m ≡ 0 → C.unfit b n ≡ 0 → meaning b m ≡ N.meaning b n
-    → (hs : List Heard) (ks : List R.Heard) → Chain b m hs → R.Chain b n ks → calls hs ≡ R.calls ks → results b hs ≡ newResults b ks
+    → (hs : List Exchange) (ks : List R.Exchange) → Chain b m hs → R.Chain b n ks → calls hs ≡ R.calls ks → results b hs ≡ newResults b ks
 unfolding Chain R.Chain expected
 both-layouts b m n u v e [] [] c d q = refl
 both-layouts b m n u v e [] (k ∷ ks) c d q = absurd (let z : _≡_ {A = ℕ} 0 1 = cc in omega arith)

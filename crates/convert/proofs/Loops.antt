@@ -2,53 +2,37 @@
 -- Assumes nothing.
 use Rattle.units.proofs.Common.{sym, _∙_, _≡_, refl, ap, List, [], _∷_, _++_, map, append-assoc, append-nil, ℕ, _≤_, _-_, _+_, _<_, suc}
 use Rattle.units.proofs.Common.{zero, add-zero, zero-add, add-one, arith, length, drop, getD, take, set, length-drop, replicate}
-use Rattle.units.proofs.Common.{length-append, length-replicate, length-take, take-append-drop, drop-drop, take-at, drop-at, take-suc}
-use Rattle.units.proofs.Common.{take-suc-set}
+use Rattle.units.proofs.Common.{length-append, length-replicate, length-take, take-append-drop, drop-at, take-suc}
+use Rattle.units.proofs.Common.{take-suc-set, take-all}
 use native.Mathlib.Nat.{add-assoc}
 use lib.ListN.{replicate-append-replicate}
-use lib.Seq.{drop-length, drop-append-add}
 use Rattle.units.specs.declared.Words.{Words}
 use Rattle.state.proofs.Terms.{counts}
 use Rattle.state.specs.declared.node.Node.{Node}
 use Rattle.state.proofs.Lists.{map-append}
 use Rattle.lists.specs.Room.{sum, placeOf}
-use Rattle.moves.specs.Moved.{putIn}
+use lib.Seq.{sets, length-sets}
+use Rattle.units.proofs.PackingLaws.{sets-fits, sets-full}
 use Rattle.placed.specs.Walked.{wordsOf}
 use Rattle.placed.specs.declared.Node as O
 use Rattle.convert.specs.Convert.{heldBy, runsOf, newStore, oldNodes}
 
 -- ---- words copied in
-pub put-more : (d : List ℕ) (to : ℕ) (j a : List ℕ) (n : ℕ) → to + length j ≡ n → n + length a ≤ length d
-    → putIn (putIn d to j) n a ≡ putIn d to (j ++ a)
-unfolding putIn
-put-more d to j a n e h =
-    let p : List ℕ = take to d ++ j in
-    let r : List ℕ = drop n d in
-    let l : length p ≡ n = simp (length-append, length-take) (omega arith) in
-    let s : take to d ++ (j ++ drop (to + length j) d) ≡ p ++ r = rw (e, ← append-assoc) in
-    let t : take n (p ++ r) ≡ p = take-at p r n l in
-    let w : drop (length p + length a) (p ++ r) ≡ drop (length a) r = drop-append-add p r (length a) in
-    let u : drop (n + length a) (p ++ r) ≡ drop (n + length a) d = rw l at w ∙ drop-drop (length a) n d in
-    let v : to + length (j ++ a) ≡ n + length a = rw length-append (omega arith) in
-    rw (s, t, u, v) (simp append-assoc)
-
-put-whole : (d s : List ℕ) → length d ≡ length s → putIn d 0 s ≡ s
-unfolding putIn
-put-whole d s e = rw (zero-add, ← e, drop-length, append-nil)
-
 -- copied to the front of zeros, and all of it back
 pub new-is : (s : List ℕ) (ns : List O.Node) → length (runsOf s ns) ≤ length s
-    → putIn s 0 (putIn (replicate (length s) 0) 0 (runsOf s ns)) ≡ newStore s ns
-unfolding putIn newStore
+    → sets s 0 (sets (replicate (length s) 0) 0 (runsOf s ns)) ≡ newStore s ns
+unfolding newStore
 new-is s ns h =
     let r : List ℕ = runsOf s ns in
     let k : ℕ = length s - length r in
     let l : length r + k ≡ length s = omega arith in
-    let z : replicate {A = ℕ} (length s) 0 ≡ replicate (length r) 0 ++ replicate k 0 = rw (replicate-append-replicate, l) in
-    let d : drop (0 + length r) (replicate {A = ℕ} (length s) 0) ≡ replicate k 0 =
-    rw (zero-add, z) (drop-at (replicate (length r) 0) (replicate k 0) (length r) (length-replicate (length r) 0)) in
-    let m : length s ≡ length (r ++ replicate {A = ℕ} k 0) = simp (length-append, length-replicate) (sym l) in
-    ap (λ (v : List ℕ). putIn s 0 (r ++ v)) d ∙ put-whole s (r ++ replicate k 0) m
+    let zs : List ℕ = replicate (length s) 0 in
+    let m : length zs ≡ length s = length-replicate (length s) 0 in
+    let z : zs ≡ replicate (length r) 0 ++ replicate k 0 = rw (replicate-append-replicate, l) in
+    let d : drop (length r) zs ≡ replicate k 0 =
+    rw z (drop-at (replicate (length r) 0) (replicate k 0) (length r) (length-replicate (length r) 0)) in
+    sets-full (sets zs 0 r) s (omega (arith, length-sets zs 0 r, m))
+    ∙ take-all (length s) (sets zs 0 r) (omega (arith, length-sets zs 0 r, m)) ∙ sets-fits r zs (omega (arith, m)) ∙ rw d
 
 -- ---- the words of all lists: one node more
 abbrev pub run : List ℕ → O.Node → List ℕ

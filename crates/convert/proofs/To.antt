@@ -10,7 +10,7 @@ use Rattle.state.proofs.Lists.{both}
 use Rattle.state.proofs.Read.{nodeFor, Packed}
 use Rattle.store.proofs.Changed.{laid-fits}
 use Rattle.placed.specs.Machine.{answerAt, startsOf, placesOf, pendingOf, nodeOf}
-use Rattle.placed.specs.Consistent.{okAnswer, clearOf, spots, inOrder, fineLists, heldsOf, counted, listClear, listsOk}
+use Rattle.placed.specs.Consistent.{okAnswer, clearOf, spots, inOrder, fineLists, heldsOf, countRight, listClear, listsOk}
 use Rattle.placed.specs.declared.Node as O
 use Rattle.placed.proofs.Formed.{lies}
 use Rattle.placed.proofs.Starts.{span, span-tail, pending-long}
@@ -27,11 +27,11 @@ module _ (store : List ℕ) where
       let s : ℕ = span store k (p + w) in
       rw (span-tail store k p, take-add w s (drop p store), drop-drop w p store, run-is k (p + w))
 
-  runs-laid : (ns : List O.Node) → every (counted store) ns ≡ true → runsOf store ns ≡ allLaid (map (nodeOf store) ns)
-  unfolding every counted runsOf allLaid nodeOf pendingOf
+  runs-laid : (ns : List O.Node) → every (countRight store) ns ≡ true → runsOf store ns ≡ allLaid (map (nodeOf store) ns)
+  unfolding every countRight runsOf allLaid nodeOf pendingOf
   runs-laid [] c = refl
   runs-laid (n ∷ ns) c =
-      let d = and-true (counted store n) (every (counted store) ns) c in
+      let d = and-true (countRight store n) (every (countRight store) ns) c in
       let e : n .list .words .0 ≡ span store (n .list .count) (n .list .place) = eqb-true _ _ (d .0) in
       rw (e, run-is (n .list .count) (n .list .place), runs-laid ns (d .1))
 
@@ -41,11 +41,11 @@ module _ (store : List ℕ) where
   nodes-same [] = refl
   nodes-same (n ∷ ns) = rw (pending-long store (n .list), nodes-same ns)
 
-  helds-same : (ns : List O.Node) → every (counted store) ns ≡ true → counts (map heldBy ns) ≡ map held (map (nodeOf store) ns)
-  unfolding every counted nodeOf
+  helds-same : (ns : List O.Node) → every (countRight store) ns ≡ true → counts (map heldBy ns) ≡ map held (map (nodeOf store) ns)
+  unfolding every countRight nodeOf
   helds-same [] c = refl
   helds-same (n ∷ ns) c =
-      let d = and-true (counted store n) (every (counted store) ns) c in
+      let d = and-true (countRight store n) (every (countRight store) ns) c in
       let e : n .list .words .0 ≡ added (pendingOf store (n .list)) = eqb-true _ _ (d .0) in
       cc (helds-same ns (d .1))
 
@@ -75,7 +75,7 @@ module _ (b : Bench) (store : List ℕ) (ns : List O.Node) (size : length store 
   packed-new =
       let ms : List M.Node = map (nodeOf store) ns in
       let p = and-true (inOrder b store [] (spots store 0 ns)) _ ok in
-      let q = and-true (every (counted store) ns) (bounded b (heldsOf store ns) && every listClear ns) (p .1) in
+      let q = and-true (every (countRight store) ns) (bounded b (heldsOf store ns) && every listClear ns) (p .1) in
       let r = and-true (bounded b (heldsOf store ns)) (every listClear ns) (q .1) in
       let f = formed-all store b 0 ns [] (p .0) in
       let o : bounded b (map held ms) ≡ true = rw helds-mean at (r .0) in

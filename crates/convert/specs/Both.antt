@@ -12,15 +12,15 @@ use Rattle.meaning.specs.Call.{Call, Said, refused, Outcome, step}
 use Rattle.placed.specs.Machine.{Machine, meaning}
 use Rattle.placed.specs.Consistent.{unfit}
 use Rattle.state.specs.Machine as N
-use Rattle.promise.specs.Obeyed.{turned}
+use Rattle.promise.specs.Obeyed.{isRefusal}
 use Rattle.promise.specs.Runs as R
 
 -- On machine m the outcome o of the meaning is brought about (`promise`, `Does`)
 pub record Does (b : Bench) (o : Outcome) (m : Machine) (said : Said) (m′ : Machine) : Type 0 where
   pub says : said ≡ o .said
-  pub refusal : turned said ≡ true → m′ ≡ m
-  pub sound : turned said ≡ false → unfit b m′ ≡ 0
-  pub means : turned said ≡ false → meaning b m′ ≡ o .next
+  pub refusal : isRefusal said ≡ true → m′ ≡ m
+  pub sound : isRefusal said ≡ false → unfit b m′ ≡ 0
+  pub means : isRefusal said ≡ false → meaning b m′ ≡ o .next
 
 unfoldable pub expected : Bench → Call → Machine → Outcome
 expected b c m = cond (eqb (unfit b m) 0) (step b (meaning b m) c) (record { said = refused (unfit b m); next = meaning b m })
@@ -29,21 +29,21 @@ abbrev pub Obeyed : Bench → Call → Machine → Said → Machine → Type 0
 Obeyed b c m said m′ = Does b (expected b c m) m said m′
 
 -- calls one after the other, each on the machine that the one before left (`promise`, `Chain`)
-pub record Heard : Type 0 where
+pub record Exchange : Type 0 where
   pub call : Call
   pub said : Said
   pub after : Machine
 
-unfoldable pub Chain : Bench → Machine → List Heard → Type 0
+unfoldable pub Chain : Bench → Machine → List Exchange → Type 0
 Chain b m [] = Unit
 Chain b m (h ∷ hs) = Obeyed b (h .call) m (h .said) (h .after) × Chain b (h .after) hs
 
-abbrev pub calls : List Heard → List Call
+abbrev pub calls : List Exchange → List Call
 calls hs = map (λ h. h .call) hs
 
 -- ---- what a run gives, call by call: what is said, and the gateway that is meant after it; with places, and without gaps
-abbrev pub results : Bench → List Heard → List (Said × Gateway)
+abbrev pub results : Bench → List Exchange → List (Said × Gateway)
 results b hs = map (λ h. (h .said, meaning b (h .after))) hs
 
-abbrev pub newResults : Bench → List R.Heard → List (Said × Gateway)
+abbrev pub newResults : Bench → List R.Exchange → List (Said × Gateway)
 newResults b hs = map (λ h. (h .said, N.meaning b (h .after))) hs

@@ -18,7 +18,7 @@ ghost use Rattle.state.specs.State.{freshNode};
 ghost use Rattle.state.specs.Machine as N;
 ghost use Rattle.state.specs.Consistent.{counts};
 ghost use Rattle.lists.specs.Room.{sum};
-ghost use Rattle.moves.specs.Moved.{putIn};
+ghost use lib.Seq.{sets};
 ghost use Rattle.placed.specs.Machine as P;
 ghost use Rattle.placed.specs.State as PS;
 ghost use Rattle.convert.specs.Convert.{EachInside, Few, runsOf, newNode, oldNodes};
@@ -39,7 +39,7 @@ pub struct Placed {
 // Copies the words of all lists, node by node, to the front of out.
 fn lay(nodes: [PlacedNode; NODES], store: &[u16], out: &mut [u16])
     requires { ⌜ EachInside (length (now store)) nodes × (length (runsOf (now store) nodes) ≤ length (now out)) ⌝ }
-    ensures { λ _. ⌜ now (out .exit) ≡ putIn (now (out .entry)) 0 (runsOf (now (store .entry)) nodes) ⌝ }
+    ensures { λ _. ⌜ now (out .exit) ≡ sets (now (out .entry)) 0 (runsOf (now (store .entry)) nodes) ⌝ }
 {
     let mut to: usize = 0;
     let mut k: usize = 0;

@@ -11,13 +11,13 @@ pub data Aim (b : Bench) (c : Call) : Whom → Type 0 where
 
 pub aim : (b : Bench) (c : Call) → Aim b c (whom b c)
 unfolding whom
-aim b c = go (isReader b (named c)) refl (eqb (named c) hub && serves c) refl
+aim b c = by-kind (isReader b (named c)) refl (eqb (named c) hub && serves c) refl
   where
-    go : (t : Bool) → isReader b (named c) ≡ t → (u : Bool) → (eqb (named c) hub && serves c) ≡ u
+    by-kind : (t : Bool) → isReader b (named c) ≡ t → (u : Bool) → (eqb (named c) hub && serves c) ≡ u
         → Aim b c (cond t (one (named c)) (cond u gateway nobody))
-    go true p u q = Aim.reader p
-    go false p true q = let r = and-true (eqb (named c) hub) (serves c) q in Aim.desk (eqb-true (named c) hub (r .0)) (r .1)
-    go false p false q = Aim.nowhere p q
+    by-kind true p u q = Aim.reader p
+    by-kind false p true q = let r = and-true (eqb (named c) hub) (serves c) q in Aim.desk (eqb-true (named c) hub (r .0)) (r .1)
+    by-kind false p false q = Aim.nowhere p q
 
 -- no reader is the gateway
 pub reader-apart : (b : Bench) → Sound b → (n : ℕ) → isReader b n ≡ true → n ≡ hub → ⊥

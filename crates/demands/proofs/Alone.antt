@@ -89,12 +89,12 @@ alike-heeded b i g s c e (one n) q =
 
 alike-tried : (b : Bench) (i : ℕ) (g s : Gateway) (c : Call) → Same i g s → stays b i c ≡ true → Alike i (tried b g c) (tried b s c)
 unfolding tried stays
-alike-tried b i g s c e q = go (eqb (judged b c) 0)
+alike-tried b i g s c e q = by-judgement (eqb (judged b c) 0)
   where
-    go : (t : Bool) → Alike i (cond t (heeded b g c (whom b c)) (Try.refuse (judged b c)))
+    by-judgement : (t : Bool) → Alike i (cond t (heeded b g c (whom b c)) (Try.refuse (judged b c)))
         (cond t (heeded b s c (whom b c)) (Try.refuse (judged b c)))
-    go true = alike-heeded b i g s c e (whom b c) q
-    go false = Alike.refuse (judged b c)
+    by-judgement true = alike-heeded b i g s c e (whom b c) q
+    by-judgement false = Alike.refuse (judged b c)
 
 -- what both say, and that they are the same to reader i afterwards
 record Agree (i : ℕ) (o u : Outcome) : Type 0 where
@@ -188,17 +188,18 @@ module _ (b : Bench) (ok : Sound b) (i : ℕ) where
   unfolding kept struck log line run Ease
   alone-from [] g s e x y z = (refl, e)
   alone-from (c ∷ cs) g s e x y z =
-      go (λ u f w. alone-from cs ((step b g c) .next) u f (bounds-step b g c x) w (z .1)) (stays b i c) refl
+      by-stay (λ u f w. alone-from cs ((step b g c) .next) u f (bounds-step b g c x) w (z .1)) (stays b i c) refl
     where
-      go : ((u : Gateway) → Same i ((step b g c) .next) u → Bounds b u → Alone b i cs ((step b g c) .next) u) → (t : Bool) → stays b i c ≡ t
+      by-stay : ((u : Gateway) → Same i ((step b g c) .next) u → Bounds b u → Alone b i cs ((step b g c) .next) u)
+          → (t : Bool) → stays b i c ≡ t
           → (cond t (line i c (step b g c) ∷ kept (ofOurs b i) (log b i ((step b g c) .next) cs))
           (kept (ofOurs b i) (log b i ((step b g c) .next) cs)) ≡ log b i s (cond t (c ∷ struck b i cs) (struck b i cs)))
           × Same i (run b ((step b g c) .next) cs) (run b s (cond t (c ∷ struck b i cs) (struck b i cs)))
-      go rest true q =
+      by-stay rest true q =
           let a = agree-step b ok i g s c e x y q (z .0) in
           let r = rest ((step b s c) .next) (a .next) (bounds-step b s c y) in
           (ap₂ _∷_ (same-line i c (step b g c) (step b s c) a) (r .0), r .1)
-      go rest false q = rest s (apart-step b ok i g s c e q) y
+      by-stay rest false q = rest s (apart-step b ok i g s c e q) y
 
   module _ (memory : ℕ → List ℕ) (cs : List Call) (z : Ease b i (fresh memory) cs) where
     alone : Alone b i cs (fresh memory) (fresh memory)

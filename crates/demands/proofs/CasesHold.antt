@@ -8,8 +8,9 @@ use Rattle.meaning.specs.Cases.{hex}
 use Rattle.meaning.proofs.Opened.{calls}
 use Rattle.demands.specs.Sound.{Sound}
 use Rattle.demands.specs.Demand.{kept, spared, stays, struck, line, log, Eased}
-use Rattle.demands.specs.Counts.{isQueued, nodeFor, broomOf, broomKind, broomCall, broomFor, isReset, isSweep, isAck, tally, answerOf}
-use Rattle.demands.specs.Counts.{turned, past}
+use Rattle.demands.specs.Counts.{isQueued, nodeFor, broomOf, broomKind, broomCall, broomFor, isReset, isSweep, isAck, tally}
+use Rattle.demands.specs.Counts.{answerDue}
+use Rattle.demands.specs.Counts.{pastAfter, past}
 use Rattle.demands.specs.Wrong.{ranges, ranging, passes, reportPasses, pastPlaque, noRoom, none, away, nothing, otherNumber, longer}
 use Rattle.demands.specs.Wrong.{tooShort, stateDoubts, wrong}
 use Rattle.demands.specs.CasesOfDemands.{blank, holding, number, lengthIn, delayIn, struckCases, lineCases, countCases, pastCases}
@@ -17,7 +18,7 @@ use Rattle.demands.specs.CasesOfDemands.{rangeCases, roomCases, pendingC
 
 -- what the rows compute with: to name one of these on a line of `unfolding` opens all that its own line names
 unfoldable pub counts : ℕ
-unfolding isQueued nodeFor broomOf broomKind broomCall broomFor isReset isSweep isAck tally answerOf turned past
+unfolding isQueued nodeFor broomOf broomKind broomCall broomFor isReset isSweep isAck tally answerDue pastAfter past
 counts = 0
 
 unfoldable pub numbers : ℕ

@@ -117,14 +117,14 @@ counts-joined : (n j : ℕ) (z : Bool) (w : List ℕ) (g h : Gateway) → h .nod
     → (k : ℕ) → g .nodes n .count ≡ k % 256
     → put j (joined w (h .nodes j)) (h .nodes) n .count ≡ (cond z 0 k + cond (eqb n j) 1 0) % 256
 unfolding put joined
-counts-joined n j z w g h e k f = go (eqb n j) refl z e
+counts-joined n j z w g h e k f = by-number (eqb n j) refl z e
   where
-    go : (t : Bool) → eqb n j ≡ t → (u : Bool) → h .nodes n .count ≡ cond u 0 (g .nodes n .count)
+    by-number : (t : Bool) → eqb n j ≡ t → (u : Bool) → h .nodes n .count ≡ cond u 0 (g .nodes n .count)
         → (cond t (joined w (h .nodes j)) (h .nodes n)) .count ≡ (cond u 0 k + cond t 1 0) % 256
-    go true p true q = rw (← eqb-true n j p, q)
-    go true p false q = rw (← eqb-true n j p, q, f) (omega arith)
-    go false p true q = q
-    go false p false q = rw (q, f) (omega arith)
+    by-number true p true q = rw (← eqb-true n j p, q)
+    by-number true p false q = rw (← eqb-true n j p, q, f) (omega arith)
+    by-number false p true q = q
+    by-number false p false q = rw (q, f) (omega arith)
 
 counts-roomed : (n j : ℕ) (z : Bool) (w : List ℕ) (g h : Gateway) → h .nodes n .count ≡ cond z 0 (g .nodes n .count)
     → (t : Bool) → Counts n j z g (roomed t g (join j w h))

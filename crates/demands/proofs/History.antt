@@ -6,7 +6,7 @@ use lib.Seq.{drop-append-le, drop-length}
 use Rattle.meaning.proofs.Terms.{Bench, hub, Node, Reader, Gateway, put, setReader, join, joined, taken, Sweep, none, clearing, resetting}
 use Rattle.meaning.proofs.Terms.{emptied, swept, fresh, added, held, fits, Call, Local, Try, Whom, named, Desk, judged, whom, lifted}
 use Rattle.meaning.proofs.Terms.{fromDesk, heeded, tried, roomed, settled, step, run}
-use Rattle.demands.specs.Counts.{nodeFor, broomCall, broomFor, isSweep, isAck, Past, answerOf, turned, past, unmade, Tells}
+use Rattle.demands.specs.Counts.{nodeFor, broomCall, broomFor, isSweep, isAck, Past, answerDue, pastAfter, past, unmade, Tells}
 use Rattle.demands.proofs.Local.{cond-all, FineL, fine-atReader, fine-atHub}
 use Rattle.demands.proofs.Aim.{Aim, aim}
 use Rattle.demands.proofs.Counted.{Brooms, brooms-atHub}
@@ -40,11 +40,11 @@ PendT n m z a g (Try.due j h w) = (j ≡ m) × (h .nodes n .pending ≡ cond (is
 pend-taken : (n m : ℕ) (g : Gateway) → 1 ≤ length (g .nodes m .pending)
     → Went (g .nodes n .pending) (eqb n m) (put m (taken (g .nodes m)) (g .nodes) n .pending)
 unfolding put taken
-pend-taken n m g h = go (eqb n m) refl
+pend-taken n m g h = by-number (eqb n m) refl
   where
-    go : (t : Bool) → eqb n m ≡ t → Went (g .nodes n .pending) t ((cond t (taken (g .nodes m)) (g .nodes n)) .pending)
-    go true e = rw (eqb-true n m e) (went h)
-    go false e = kept
+    by-number : (t : Bool) → eqb n m ≡ t → Went (g .nodes n .pending) t ((cond t (taken (g .nodes m)) (g .nodes n)) .pending)
+    by-number true e = rw (eqb-true n m e) (went h)
+    by-number false e = kept
 
 module _ (n : ℕ) (a : Bool) (g : Gateway) (Q : Type 0) (k : ℕ) where
   pend-reader : (m : ℕ) (l : Local Reader) → FineL Q a (g .nodes m .pending) k l → PendT n m none a g (lifted (setReader m) m g l)
@@ -104,17 +104,17 @@ tells-join p vs false w h = h
 pend-join : (n j : ℕ) (w : List ℕ) (h : Gateway)
     → put j (joined w (h .nodes j)) (h .nodes) n .pending ≡ cond (eqb n j) (h .nodes n .pending ++ (w ∷ [])) (h .nodes n .pending)
 unfolding put joined
-pend-join n j w h = go (eqb n j) refl
+pend-join n j w h = by-node (eqb n j) refl
   where
-    go : (t : Bool) → eqb n j ≡ t
+    by-node : (t : Bool) → eqb n j ≡ t
         → (cond t (joined w (h .nodes j)) (h .nodes n)) .pending ≡ cond t (h .nodes n .pending ++ (w ∷ [])) (h .nodes n .pending)
-    go true e = rw (eqb-true n j e)
-    go false e = refl
+    by-node true e = rw (eqb-true n j e)
+    by-node false e = refl
 
 tells-roomed : (n j : ℕ) (z : Sweep) (a : Bool) (w : List ℕ) (g h : Gateway) (p : Past) → Tells p (g .nodes n .pending)
     → h .nodes n .pending ≡ cond (isSweep z) [] (g .nodes n .pending) → (t : Bool)
-    → Tells (turned ((roomed t g (join j w h)) .said) z a (eqb n j) w p) ((roomed t g (join j w h)) .next .nodes n .pending)
-unfolding roomed turned
+    → Tells (pastAfter ((roomed t g (join j w h)) .said) z a (eqb n j) w p) ((roomed t g (join j w h)) .next .nodes n .pending)
+unfolding roomed pastAfter
 tells-roomed n j z a w g h p e f true =
     rw (pend-join n j w h)
     (tells-join (record { made = p .made; gone = cond (isSweep z) (length (p .made)) (p .gone) }) (h .nodes n .pending) (eqb n j) w
@@ -122,9 +122,9 @@ tells-roomed n j z a w g h p e f true =
 tells-roomed n j z a w g h p e f false = e
 
 tells-settled : (b : Bench) (n m : ℕ) (z : Sweep) (a : Bool) (g : Gateway) (p : Past) → Tells p (g .nodes n .pending)
-    → (t : Try) → PendT n m z a g t → Tells (turned ((settled b g t) .said) z a (eqb n m) (answerOf t) p)
+    → (t : Try) → PendT n m z a g t → Tells (pastAfter ((settled b g t) .said) z a (eqb n m) (answerDue t) p)
     ((settled b g t) .next .nodes n .pending)
-unfolding settled PendT turned answerOf
+unfolding settled PendT pastAfter answerDue
 tells-settled b n m z a g p e (Try.refuse k) q = e
 tells-settled b n m z a g p e (Try.give r h) q = tells-went p e q
 tells-settled b n m z a g p e (Try.due j h w) q = rw (← (q .0)) (tells-roomed n j z a w g h p e (q .1) (fits b j (join j w h)))

@@ -41,13 +41,14 @@ number-settled b g (Try.due n h w) p q r s e = isdue (fits b n (join n w h)) g (
 -- what is said is by the first doubt that applies
 pub number-step : (b : Bench) → Sound b → (g : Gateway) (c : Call) → number ((step b g c) .said) ≡ refusal (wrong b g c)
 unfolding step wrong stateDoubts judged
-number-step b ok g c = go (eqb (judged b c) 0) refl
+number-step b ok g c = by-judgement (eqb (judged b c) 0) refl
   where
-    go : (t : Bool) → eqb (judged b c) 0 ≡ t → number ((settled b g (tried b g c)) .said) ≡ refusal (asked b c orElse stateDoubts b g c)
-    go true e =
+    by-judgement : (t : Bool) → eqb (judged b c) 0 ≡ t
+        → number ((settled b g (tried b g c)) .said) ≡ refusal (asked b c orElse stateDoubts b g c)
+    by-judgement true e =
         let j = eqb-true (judged b c) 0 e in
         let h : tried b g c ≡ heeded b g c (whom b c) = unfold tried in yes-cond _ e in
         number-settled b g (tried b g c) _ _ _ _ (rw h (fine-heeded b ok g c j (aim b c))) ∙ sym (pass (asked b c) _ j)
-    go false e =
+    by-judgement false e =
         let j = eqb-false (judged b c) 0 e in
         ap (λ (o : Outcome). number (o .said)) (judged-given b g c j) ∙ sym (stop (asked b c) _ j)

@@ -11,4 +11,4 @@ pub mod Third
 pub mod Counted
 pub mod Swept
 pub mod History
-pub mod Answers
+pub mod ReadBack

@@ -1,5 +1,5 @@
--- What its own node makes of a call: no refusal but 12, 14, 15 and 16, each by its own test of `Wrong`, and an answer taken away only by an
--- acknowledgement.
+-- What its own node makes of a call: no refusal but 12, 14, 15 and 16, each by its own test of `Wrong`; only an acknowledgement takes
+-- an answer away.
 -- Assumes nothing.
 use Rattle.units.proofs.Common.{_≡_, refl, true, false, Bool, cond, not, _&&_, false≢true, List, [], _∷_, ℕ, _≤_, _+_, arith, eqb, leb}
 use Rattle.units.proofs.Common.{length, eqb-true, within}

@@ -1,6 +1,5 @@
--- "The lowest number that applies is given, but a response being read is checked in the order 4, 5, 6, 7, 9, 3, 10, 11."
--- `refusal` gives the number of the first doubt that applies; the numbers of every other list of doubts never fall, so the first is the
--- lowest.
+-- "The lowest number that applies is given, but a response being read is checked in the order 4, 5, 6, 7, 9, 3, 10, 11." `refusal` gives
+-- the number of the first doubt that applies; the numbers of every other list never fall, so the first is the lowest.
 -- Assumes nothing.
 use Rattle.units.proofs.Common.{_≡_, refl, true, false, Bool, cond, List, [], _∷_, _++_, ℕ, _≤_, le-refl, arith, eqb, leb, ne-eqb, le-leb}
 use Rattle.units.proofs.Common.{leb-true, and-true}

@@ -130,12 +130,12 @@ aside-late k (Try.due n h w) p = tt
 
 aside-tried : (b : Bench) → Sound b → (g : Gateway) (c : Call) → AsideT (tried b g c)
 unfolding tried AsideT
-aside-tried b ok g c = go (eqb (judged b c) 0) refl (judged-early b c)
+aside-tried b ok g c = by-judgement (eqb (judged b c) 0) refl (judged-early b c)
   where
-    go : (t : Bool) → eqb (judged b c) 0 ≡ t → (t || within 3 11 (judged b c)) ≡ true
+    by-judgement : (t : Bool) → eqb (judged b c) 0 ≡ t → (t || within 3 11 (judged b c)) ≡ true
         → AsideT (cond t (heeded b g c (whom b c)) (Try.refuse (judged b c)))
-    go true e p = aside-late _ _ (fine-heeded b ok g c (eqb-true (judged b c) 0 e) (aim b c))
-    go false e p = let r = within-both 3 11 (judged b c) p in (omega arith, omega arith, λ z. omega arith)
+    by-judgement true e p = aside-late _ _ (fine-heeded b ok g c (eqb-true (judged b c) 0 e) (aim b c))
+    by-judgement false e p = let r = within-both 3 11 (judged b c) p in (omega arith, omega arith, λ z. omega arith)
 
 -- an answer is due that has no room
 abbrev pub Roomless : Bench → Gateway → Call → Type 0
@@ -144,25 +144,25 @@ Roomless b g c = (n : ℕ) × (h : Gateway) × (w : List ℕ) × (tried b g c �
 -- the number of a refusal is one of the table's; 13 says that an answer was due that has no room
 refusals : (b : Bench) → Sound b → (g : Gateway) (c : Call) (k : ℕ) → (step b g c) .said ≡ refused k → Aside k ⊎ ((k ≡ 13) × Roomless b g c)
 unfolding step settled roomed AsideT
-refusals b ok g c k e = go (tried b g c) refl (aside-tried b ok g c) e
+refusals b ok g c k e = by-try (tried b g c) refl (aside-tried b ok g c) e
   where
     due : (n : ℕ) (h : Gateway) (w : List ℕ) → tried b g c ≡ Try.due n h w → (t : Bool) → fits b n (join n w h) ≡ t
         → (roomed t g (join n w h)) .said ≡ refused k → Aside k ⊎ ((k ≡ 13) × Roomless b g c)
     due n h w e true f q = absurd (let z : _≡_ {A = ℕ} 0 1 = cc in omega arith)
     due n h w e false f q = let r : 13 ≡ k = cc in inr (sym r, (n, h, w, e, f))
 
-    go : (t : Try) → tried b g c ≡ t → AsideT t → (settled b g t) .said ≡ refused k → Aside k ⊎ ((k ≡ 13) × Roomless b g c)
-    go (Try.refuse j) e p q = let r : j ≡ k = cc in inl (rw r at p)
-    go (Try.give r h) e p q = absurd (let z : _≡_ {A = ℕ} 0 1 = cc in omega arith)
-    go (Try.due n h w) e p q = due n h w e (fits b n (join n w h)) refl q
+    by-try : (t : Try) → tried b g c ≡ t → AsideT t → (settled b g t) .said ≡ refused k → Aside k ⊎ ((k ≡ 13) × Roomless b g c)
+    by-try (Try.refuse j) e p q = let r : j ≡ k = cc in inl (rw r at p)
+    by-try (Try.give r h) e p q = absurd (let z : _≡_ {A = ℕ} 0 1 = cc in omega arith)
+    by-try (Try.due n h w) e p q = due n h w e (fits b n (join n w h)) refl q
 
 -- so it is 3 to 16
 pub judged-low : (b : Bench) (c : Call) → judged b c ≤ 11
-judged-low b c = go (eqb (judged b c) 0) refl (judged-early b c)
+judged-low b c = by-number (eqb (judged b c) 0) refl (judged-early b c)
   where
-    go : (t : Bool) → eqb (judged b c) 0 ≡ t → (t || within 3 11 (judged b c)) ≡ true → judged b c ≤ 11
-    go true e p = omega (arith, eqb-true (judged b c) 0 e)
-    go false e p = within-both 3 11 (judged b c) p .1
+    by-number : (t : Bool) → eqb (judged b c) 0 ≡ t → (t || within 3 11 (judged b c)) ≡ true → judged b c ≤ 11
+    by-number true e p = omega (arith, eqb-true (judged b c) 0 e)
+    by-number false e p = within-both 3 11 (judged b c) p .1
 
 pub refused-numbers : (b : Bench) → Sound b → (g : Gateway) (c : Call) (k : ℕ) → (step b g c) .said ≡ refused k → (3 ≤ k) × (k ≤ 16)
 refused-numbers b ok g c k e = elim (refusals b ok g c k e) [

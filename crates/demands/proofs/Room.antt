@@ -25,11 +25,11 @@ put-other n a f m h = rw (ne-eqb m n h)
 -- what holds of the new value there, and of the others, holds everywhere
 pub put-all : {A : Type 0} (P : ℕ → A → Type 0) (n : ℕ) (a : A) (f : ℕ → A) → P n a → ((m : ℕ) → P m (f m)) → (m : ℕ) → P m (put n a f m)
 unfolding put
-put-all {A} P n a f new old m = go (eqb m n) refl
+put-all {A} P n a f new old m = by-number (eqb m n) refl
   where
-    go : (t : Bool) → eqb m n ≡ t → P m (cond t a (f m))
-    go true e = subst (λ (k : ℕ). P k a) (sym (eqb-true m n e)) new
-    go false e = old m
+    by-number : (t : Bool) → eqb m n ≡ t → P m (cond t a (f m))
+    by-number true e = subst (λ (k : ℕ). P k a) (sym (eqb-true m n e)) new
+    by-number false e = old m
 
 -- ---- held words
 added-snoc : (xs : List (List ℕ)) (w : List ℕ) → added (xs ++ (w ∷ [])) ≡ added xs + wordNo 1 w

@@ -129,27 +129,27 @@ lineCases =
     ∷ []
 
 -- ---- instance counts, counted from the calls: five so far at a node
-abbrev pub counted : ℕ → Call → Said → ℕ
-counted n c a = counting full n 5 c a
+abbrev pub countAfter : ℕ → Call → Said → ℕ
+countAfter n c a = counting full n 5 c a
 
 unfoldable pub countCases : List Case
 countCases =
-    "an answer of the node" says eqb (counted 3 (cmd (search 3)) queued) 6
-    ∷ "a report of the node" says eqb (counted 3 (check 3 march 0) queued) 6
-    ∷ "an answer of another" says eqb (counted 3 (cmd (search 4)) queued) 5
-    ∷ "an answer of the gateway, at it" says eqb (counted 32 getsName queued) 6
-    ∷ "an answer of the gateway, at a reader" says eqb (counted 3 getsName queued) 5
-    ∷ "what is nobody's, at reader 1" says eqb (counted 1 (cmd (search 17)) queued) 5
-    ∷ "a refusal" says eqb (counted 3 (cmd (search 3)) (refused 13)) 5
-    ∷ "a quiet check" says eqb (counted 3 (check 3 march 0) (answered quiet)) 5
-    ∷ "an acknowledgement" says eqb (counted 3 (acknowledge 3 1) (answered done)) 5
-    ∷ "61 at a reader" says eqb (counted 3 resets queued) 0
-    ∷ "61 at the gateway, its own answer counted" says eqb (counted 32 resets queued) 1
-    ∷ "61 refused" says eqb (counted 3 resets (refused 3)) 5
-    ∷ "79 at a reader" says eqb (counted 3 clears queued) 5
-    ∷ "79 at the gateway" says eqb (counted 32 clears queued) 6
-    ∷ "60 at a reader" says eqb (counted 3 (toHub 0xAA60) queued) 5
-    ∷ "21 at a reader" says eqb (counted 3 (toHub 0xAA21) queued) 5
+    "an answer of the node" says eqb (countAfter 3 (cmd (search 3)) queued) 6
+    ∷ "a report of the node" says eqb (countAfter 3 (check 3 march 0) queued) 6
+    ∷ "an answer of another" says eqb (countAfter 3 (cmd (search 4)) queued) 5
+    ∷ "an answer of the gateway, at it" says eqb (countAfter 32 getsName queued) 6
+    ∷ "an answer of the gateway, at a reader" says eqb (countAfter 3 getsName queued) 5
+    ∷ "what is nobody's, at reader 1" says eqb (countAfter 1 (cmd (search 17)) queued) 5
+    ∷ "a refusal" says eqb (countAfter 3 (cmd (search 3)) (refused 13)) 5
+    ∷ "a quiet check" says eqb (countAfter 3 (check 3 march 0) (answered quiet)) 5
+    ∷ "an acknowledgement" says eqb (countAfter 3 (acknowledge 3 1) (answered done)) 5
+    ∷ "61 at a reader" says eqb (countAfter 3 resets queued) 0
+    ∷ "61 at the gateway, its own answer counted" says eqb (countAfter 32 resets queued) 1
+    ∷ "61 refused" says eqb (countAfter 3 resets (refused 3)) 5
+    ∷ "79 at a reader" says eqb (countAfter 3 clears queued) 5
+    ∷ "79 at the gateway" says eqb (countAfter 32 clears queued) 6
+    ∷ "60 at a reader" says eqb (countAfter 3 (toHub 0xAA60) queued) 5
+    ∷ "21 at a reader" says eqb (countAfter 3 (toHub 0xAA21) queued) 5
     ∷ "over a run" says eqb (tally full 3 0 (log full 3 blank (cmd (search 3) ∷ cmd (search 4) ∷ cmd (search 3) ∷ []))) 2
     ∷ "over a run with a 61 in it" says eqb (tally full 3 0 (log full 3 blank (cmd (search 3) ∷ resets ∷ cmd (search 3) ∷ []))) 1
     ∷ "over no call" says eqb (tally full 3 7 []) 7

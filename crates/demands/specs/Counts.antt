@@ -94,16 +94,16 @@ pub record Past : Type 0 where
   pub gone : ℕ
 
 -- the answer that a call is due to give
-unfoldable pub answerOf : Try → List ℕ
-answerOf (Try.refuse k) = []
-answerOf (Try.give r h) = []
-answerOf (Try.due n h w) = w
+unfoldable pub answerDue : Try → List ℕ
+answerDue (Try.refuse k) = []
+answerDue (Try.give r h) = []
+answerDue (Try.due n h w) = w
 
 -- one call more: an accepted acknowledgement takes one answer away, an accepted 61 or 79 all; then an answer made joins
-unfoldable pub turned : Said → Sweep → Bool → Bool → List ℕ → Past → Past
-turned (refused k) z ack mine w p = p
-turned (answered r) z ack mine w p = record { made = p .made; gone = cond (ack && mine) (p .gone + 1) (p .gone) }
-turned queued z ack mine w p = record {
+unfoldable pub pastAfter : Said → Sweep → Bool → Bool → List ℕ → Past → Past
+pastAfter (refused k) z ack mine w p = p
+pastAfter (answered r) z ack mine w p = record { made = p .made; gone = cond (ack && mine) (p .gone + 1) (p .gone) }
+pastAfter queued z ack mine w p = record {
   made = cond mine (p .made ++ (w ∷ [])) (p .made);
   gone = cond (isSweep z) (length (p .made)) (p .gone);
 }
@@ -112,7 +112,7 @@ unfoldable pub past : Bench → ℕ → Gateway → List Call → Past → Past
 past b n g [] p = p
 past b n g (c ∷ cs) p =
     past b n ((step b g c) .next) cs
-    (turned ((step b g c) .said) (broomFor b c (whom b c)) (isAck c) (eqb n (nodeFor (whom b c))) (answerOf (tried b g c)) p)
+    (pastAfter ((step b g c) .said) (broomFor b c (whom b c)) (isAck c) (eqb n (nodeFor (whom b c))) (answerDue (tried b g c)) p)
 
 -- where every past starts: nothing has been made at the node, and nothing is gone
 abbrev pub unmade : Past

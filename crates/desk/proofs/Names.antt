@@ -1,8 +1,9 @@
 -- A name in its 64 bytes: one that is in order, and one made of bytes that came.
 -- Assumes nothing.
-use Rattle.units.proofs.Common.{_∙_, _≡_, refl, ap, true, List, [], _∷_, _++_, append-nil, ℕ, _≤_, suc, zero, arith, leb, length, drop}
-use Rattle.units.proofs.Common.{take, length-drop, replicate, drop-of-length-le, length-append, length-take, take-at, drop-at, le-leb}
-use Rattle.units.proofs.Common.{leb-true, every, onto, and-true, length-onto}
+use Rattle.units.proofs.Common.{_∙_, _≡_, refl, ap, true, List, [], _∷_, _++_, ℕ, _≤_, suc, zero, arith, leb, length, drop}
+use Rattle.units.proofs.Common.{take, length-drop, replicate, length-append, length-take, take-at, drop-at, le-leb}
+use Rattle.units.proofs.Common.{leb-true, every, and-true, length-sets, sets}
+use Rattle.units.proofs.PackingLaws.{sets-full}
 use Rattle.state.proofs.Terms.{zeros, nameOk}
 use Rattle.state.specs.declared.Name.{Name}
 use Rattle.state.proofs.Lists.{both}
@@ -36,9 +37,9 @@ abbrev pub written : ℕ → List ℕ → Name
 written n bytes = record { length = record { 0 = n }; bytes = bytes ++ drop n blank }
 
 module _ (n c : ℕ) (xs : List ℕ) {bytes : List ℕ} (short : n ≤ 64) (whole : n ≡ length (take c xs))
-    (is : bytes ≡ onto xs (take n blank)) where
+    (is : bytes ≡ sets (take n blank) 0 xs) where
   front-long : length bytes ≡ n
-  front-long = ap length is ∙ length-onto xs (take n blank) ∙ rw length-take (omega arith)
+  front-long = ap length is ∙ length-sets (take n blank) 0 xs ∙ rw length-take (omega arith)
 
   pub name-long : length (written n bytes .bytes) ≡ 64
   name-long = let l = front-long in simp (length-append, length-drop) (omega arith)
@@ -47,12 +48,10 @@ module _ (n c : ℕ) (xs : List ℕ) {bytes : List ℕ} (short : n ≤ 64) (whol
   unfolding nameOk
   name-ok = both (le-leb n 64 short) (ap zeros (drop-at bytes (drop n blank) n front-long) ∙ none-behind n 64)
 
-  pub name-is : titleOf (written n bytes) ≡ take c xs
-  unfolding onto
-  name-is =
+  pub title-is : titleOf (written n bytes) ≡ take c xs
+  title-is =
       let l : length (take n blank) ≡ n = rw length-take (omega arith) in
       let q : length (take c xs) ≤ length xs = rw length-take (omega arith) in
       let h : length (take n blank) ≤ length xs = omega arith in
-      let e : bytes ≡ take n xs = is ∙ ap (λ (r : List ℕ). take (length (take n blank)) xs ++ r) (drop-of-length-le (take n blank) h)
-      ∙ append-nil _ ∙ ap (λ (k : ℕ). take k xs) l in
+      let e : bytes ≡ take n xs = is ∙ sets-full xs (take n blank) h ∙ ap (λ (k : ℕ). take k xs) l in
       take-at bytes (drop n blank) n front-long ∙ e ∙ ap (λ (k : ℕ). take k xs) whole ∙ take-own c xs

@@ -1,7 +1,7 @@
 -- The gateway's own commands: each way that the code returns is the definition's local outcome.
 -- Assumes nothing.
 use Rattle.units.proofs.Common.{sym, _∙_, _≡_, refl, ap, subst, true, not, List, [], _∷_, ℕ, _≤_, arith, eqb, T, length, take, every}
-use Rattle.units.proofs.Common.{bytesOf, onto, keys}
+use Rattle.units.proofs.Common.{bytesOf, keys, sets}
 use types.Run.{OneOf}
 use denote.Enum.Declared.{tagOf}
 use Rattle.units.specs.declared.Words.{Words}
@@ -23,9 +23,9 @@ use Rattle.answers.specs.Ordered.{loadOf}
 use Rattle.answers.specs.Say.{good, Says}
 use Rattle.answers.specs.Decided.{bare, told, Formed}
 use Rattle.answers.specs.declared.Verdict.the-variants as W
-use Rattle.desk.specs.Ruled.{titleOf, Told, ToldOf, Governable, Rules, Governs}
+use Rattle.desk.specs.Ruled.{titleOf, Limited, LimitedOf, Governable, Rules, Governs}
 use Rattle.desk.specs.declared.Ruled.{Ruled}
-use Rattle.desk.proofs.Names.{blank, written, name-ok, name-long, name-is}
+use Rattle.desk.proofs.Names.{blank, written, name-ok, name-long, title-is}
 
 abbrev dueOf : Name → Broom → Words → Ruled
 dueOf name broom w = record { name = name; broom = broom; words = w; verdict = W.Due }
@@ -54,8 +54,8 @@ rules-due {l} {out} {d} {name} {broom} {w} {r} {bs} count t echo e s f o wide q 
 -- ---- what 21 brings
 pub name-whole : {t : Stamp} {k : OfGateway} (m : Command) (ws : List ℕ) {name : Name} {room : ℕ}
     → Governable full t (K.Gateway k) m ws name room → k ≡ SetName → (m .size ≤ 64) × (m .size ≡ length (loadOf full m ws))
-unfolding ToldOf Told
-name-whole m ws g e = subst (λ (k : OfGateway). ToldOf full (K.Gateway k) m ws) e (g .told)
+unfolding LimitedOf Limited
+name-whole m ws g e = subst (λ (k : OfGateway). LimitedOf full (K.Gateway k) m ws) e (g .told)
 
 -- ---- a command of the gateway, by its kind; r is the answer that was said, d what was handed back
 module _ (count : ℕ) (name : Name) (t : Stamp) (k : OfGateway) (m : Command) (ws : List ℕ) {room : ℕ}
@@ -88,7 +88,7 @@ module _ (count : ℕ) (name : Name) (t : Stamp) (k : OfGateway) (m : Command) (
 
   -- 21: bytes are what came, over zeros
   pub renamed : {bytes : List ℕ} → k ≡ SetName → r ≡ good count hub t 0x21 → Says full r [] (w .0) out
-      → bytes ≡ onto (bytesOf ws) (take (m .size) blank) → d ≡ dueOf (written (m .size) bytes) B.Nothing w → Governs full count name t
+      → bytes ≡ sets (take (m .size) blank) 0 (bytesOf ws) → d ≡ dueOf (written (m .size) bytes) B.Nothing w → Governs full count name t
       (K.Gateway k) m ws d out
   unfolding governed ruled answer broomOf loadOf
   renamed e f s u p =
@@ -96,7 +96,7 @@ module _ (count : ℕ) (name : Name) (t : Stamp) (k : OfGateway) (m : Command) (
       let c = carried (rowOf full (m .command)) m in
       rules-due count t 0x21 f s p (name-ok _ c _ (z .0) (z .1) u) (name-long _ c _ (z .0) (z .1) u)
       (ap (λ (s : List ℕ). Local.due (record { broom = broomOf B.Nothing; title = s }) (responseBody (good count hub t 0x21) []))
-      (name-is _ c _ (z .0) (z .1) u)
+      (title-is _ c _ (z .0) (z .1) u)
       ∙ ap (λ (k : OfGateway). governed (bare count) (titleOf name) t (K.Gateway k) (loadOf full m ws)) (sym e))
 
   -- 60

@@ -26,24 +26,24 @@ abbrev pub titleOf : Name → List ℕ
 titleOf n = take (n .length .0) (n .bytes)
 
 -- limits that an accepted packet has kept, as far as the code rests on them: a name has at most 64 bytes, and all of them came
-unfoldable pub Told : Bench → OfGateway → Command → List ℕ → Type 0
-Told b GetName m words = Unit
-Told b SetName m words = (m .size ≤ 64) × (m .size ≡ length (loadOf b m words))
-Told b Initialise m words = Unit
-Told b ResetGateway m words = Unit
-Told b Clear m words = Unit
+unfoldable pub Limited : Bench → OfGateway → Command → List ℕ → Type 0
+Limited b GetName m words = Unit
+Limited b SetName m words = (m .size ≤ 64) × (m .size ≡ length (loadOf b m words))
+Limited b Initialise m words = Unit
+Limited b ResetGateway m words = Unit
+Limited b Clear m words = Unit
 
-unfoldable pub ToldOf : Bench → Kind → Command → List ℕ → Type 0
-ToldOf b (K.Plaque k) m words = Unit
-ToldOf b K.Continuous m words = Unit
-ToldOf b K.ResetReader m words = Unit
-ToldOf b (K.Gateway k) m words = Told b k m words
-ToldOf b K.Unknown m words = Unit
+unfoldable pub LimitedOf : Bench → Kind → Command → List ℕ → Type 0
+LimitedOf b (K.Plaque k) m words = Unit
+LimitedOf b K.Continuous m words = Unit
+LimitedOf b K.ResetReader m words = Unit
+LimitedOf b (K.Gateway k) m words = Limited b k m words
+LimitedOf b K.Unknown m words = Unit
 
 -- ---- what the code rests on
 pub record Governable (b : Bench) (t : Stamp) (k : Kind) (m : Command) (words : List ℕ) (name : Name) (answer : ℕ) : Type 0 where
   pub stamp : isStamp t ≡ true
-  pub told : ToldOf b k m words
+  pub told : LimitedOf b k m words
   pub inOrder : nameOk name ≡ true
   pub wide : length (name .bytes) ≡ 64
   pub long : overall 255 ≤ answer

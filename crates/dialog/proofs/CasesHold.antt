@@ -7,7 +7,7 @@ use Rattle.state.proofs.Terms.{laid, allLaid, storeOf}
 use Rattle.text.specs.Text.{hexOf, decimalWithin, decimalOf, wordsLine}
 use Rattle.listing.specs.Lines.{numberLine}
 use Rattle.listing.specs.Listing.{blank}
-use Rattle.dialog.specs.Fields.{before, fields, decimalFrom, numberOk, hexFrom, wordOk, bytesOk, pairs, bytesOf}
+use Rattle.dialog.specs.Fields.{before, fields, decimalFrom, numberOk, hexFrom, wordOk, bytesOk, pairs, bytesOfHex}
 use Rattle.dialog.specs.Spoken.{numbersOk, commandOk, checkOk, arriveOk, leaveOk, collectOk, acknowledgeOk, storeOk, callBy, spoken}
 use Rattle.dialog.specs.Dialog.{collectedLine, saidLine, unreadableLine, storeLine, firstNodes, inOrder, replyTo, linesOf, replies}
 use Rattle.dialog.specs.Dialog.{conversation}
@@ -15,7 +15,7 @@ use Rattle.dialog.specs.Cases.{lineCases, callCases, numberCases, wordCa
 
 -- what the rows compute with: to name it on a line of `unfolding` opens all that its own line names
 unfoldable pub read : ℕ
-unfolding before fields decimalFrom numberOk hexFrom wordOk bytesOk pairs bytesOf numbersOk commandOk checkOk arriveOk leaveOk collectOk
+unfolding before fields decimalFrom numberOk hexFrom wordOk bytesOk pairs bytesOfHex numbersOk commandOk checkOk arriveOk leaveOk collectOk
 read = 0
 
 unfoldable pub written : ℕ

@@ -2,10 +2,10 @@
 -- Assumes nothing.
 use Rattle.units.proofs.Common.{sym, _∙_, _≡_, refl, ap, true, false, Bool, cond, _&&_, false≢true, true≢false, List, [], _∷_, ℕ, _≤_, _-_}
 use Rattle.units.proofs.Common.{_+_, _<_, suc, _*_, zero, _^_, add-one, arith, eqb, leb, length, drop, getD, drop-of-length-le, drop-cons}
-use Rattle.units.proofs.Common.{eq-eqb, ne-eqb, le-leb, eqb-true, leb-true, every, within, yes-cond, no-cond, yes-and, and-true}
+use Rattle.units.proofs.Common.{eq-eqb, ne-eqb, le-leb, leb-true, every, within, yes-cond, no-cond, yes-and, and-true}
 use native.Mathlib.Nat.{pow-succ', pow-le-pow-right}
 use Rattle.meaning.proofs.Terms.{same}
-use Rattle.dialog.specs.Fields.{before, fields, isDigit, decimalFrom, valueOf, numberOk}
+use Rattle.dialog.specs.Fields.{before, fields, isDigit, valueOf, numberOk}
 
 -- ---- answers of tests
 pub both : {a b : Bool} → a ≡ true → b ≡ true → (a && b) ≡ true
@@ -15,6 +15,10 @@ pub nowise : (a : Bool) → (a ≡ true → ⊥) → a ≡ false
 nowise true h = absurd (h refl)
 nowise false h = refl
 
+pub and-end : (a : Bool) → (a && true) ≡ a
+and-end true = refl
+and-end false = refl
+
 pub clash : {a b : Bool} → a ≡ b → a ≡ false → b ≡ true → ⊥
 clash e f t = true≢false (sym t ∙ sym e ∙ f)
 
@@ -23,9 +27,6 @@ in-range a z n e = let p = and-true (leb a n) (leb n z) e in (leb-true a n (p .0
 
 pub is-within : (a z n : ℕ) → a ≤ n → n ≤ z → within a z n ≡ true
 is-within a z n h k = both (le-leb a n h) (le-leb n z k)
-
-pub not-within : (a z n : ℕ) → (a ≤ n → n ≤ z → ⊥) → within a z n ≡ false
-not-within a z n h = nowise (within a z n) (λ e. h (in-range a z n e .0) (in-range a z n e .1))
 
 -- ---- what is left of a list
 module _ {A : Type 0} where
@@ -66,17 +67,6 @@ same-length [] (y ∷ ys) e = absurd (false≢true e)
 same-length (x ∷ xs) [] e = absurd (false≢true e)
 same-length (x ∷ xs) (y ∷ ys) e = ap suc (same-length xs ys (and-true (eqb x y) (same xs ys) e .1))
 
-pub same-eq : (xs ys : List ℕ) → same xs ys ≡ true → xs ≡ ys
-unfolding same
-same-eq [] [] e = refl
-same-eq [] (y ∷ ys) e = absurd (false≢true e)
-same-eq (x ∷ xs) [] e = absurd (false≢true e)
-same-eq (x ∷ xs) (y ∷ ys) e =
-    let p = and-true (eqb x y) (same xs ys) e in
-    let q : x ≡ y = eqb-true x y (p .0) in
-    let r : xs ≡ ys = same-eq xs ys (p .1) in
-    cc
-
 pub same-next : (xs ys : List ℕ) (i : ℕ) → i < length xs → i < length ys
     → same (drop i xs) (drop i ys) ≡ (eqb (getD xs i 0) (getD ys i 0) && same (drop (i + 1) xs) (drop (i + 1) ys))
 unfolding same
@@ -114,15 +104,6 @@ unfolding fields before
 fields-more c cs f fs h e = no-cond _ (ne-eqb c 32 h) ∙ ap (before c) e
 
 -- ---- numbers
-pub decimal-next : (n : ℕ) (xs : List ℕ) (i : ℕ) → i < length xs → decimalFrom n (drop i xs) ≡ decimalFrom (n * 10 + (getD xs i 0 - 48))
-    (drop (i + 1) xs)
-unfolding decimalFrom
-decimal-next n xs i h = ap (decimalFrom n) (next xs i 0 h)
-
-pub decimal-end : (n : ℕ) (xs : List ℕ) (i : ℕ) → length xs ≤ i → decimalFrom n (drop i xs) ≡ n
-unfolding decimalFrom
-decimal-end n xs i h = ap (decimalFrom n) (drop-of-length-le xs {i = i} h)
-
 -- one digit more is one power of ten more
 pub ten-times : (n d i : ℕ) → n < 10 ^ i → d < 10 → n * 10 + d < 10 ^ (i + 1)
 ten-times n d i h k = rw (add-one i, pow-succ' 10 i) (omega arith)

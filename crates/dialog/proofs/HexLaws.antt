@@ -1,13 +1,12 @@
--- Laws of words and bytes in hexadecimal digits, and of a list stored to the front of a lent output.
+-- Laws of words and bytes in hexadecimal digits.
 -- Assumes nothing.
 use Rattle.units.proofs.Common.{sym, _∙_, _≡_, refl, ap, ⊎-elim, inl, inr, _⊎_, true, false, Bool, _&&_, _||_, List, [], _∷_, ℕ, _≤_, _-_}
-use Rattle.units.proofs.Common.{_+_, _<_, suc, _*_, _%_, _/_, arith, eqb, leb, length, drop, getD, set, length-set, drop-of-length-le, sets}
-use Rattle.units.proofs.Common.{take-nil, eq-eqb, le-leb, eqb-true, leb-true, lt-leb, every, within, word, onto, yes-cond, no-cond, yes-or}
+use Rattle.units.proofs.Common.{_+_, _<_, _*_, _%_, _/_, arith, eqb, leb, length, drop, getD, drop-of-length-le}
+use Rattle.units.proofs.Common.{eq-eqb, le-leb, eqb-true, leb-true, lt-leb, every, within, yes-cond, no-cond, yes-or}
 use Rattle.units.proofs.Common.{no-or, yes-and, and-true}
-use lib.Seq.{set-out}
 use Rattle.meaning.proofs.Terms.{same}
-use Rattle.dialog.specs.Fields.{isDigit, isHex, hexDigit, hexFrom, wordOk, wordOf, dash, bytesOk, pairs, bytesOf}
-use Rattle.dialog.proofs.FieldLaws.{both, in-range, next, every-is}
+use Rattle.dialog.specs.Fields.{isDigit, isHex, hexDigit, wordOk, dash, bytesOk, pairs, bytesOfHex}
+use Rattle.dialog.proofs.FieldLaws.{both, in-range, next}
 
 -- ---- a digit
 or-cases : (a b : Bool) → (a || b) ≡ true → (a ≡ true) ⊎ (b ≡ true)
@@ -31,29 +30,13 @@ pub digit-lower : (c : ℕ) → 70 < c → hexDigit c ≡ c - 87
 digit-lower c g = no-cond _ (lt-leb c 57 (omega arith)) ∙ no-cond _ (lt-leb c 70 g)
 
 -- ---- a word
-four : (xs : List ℕ) → length xs ≡ 4 → xs ≡ getD xs 0 0 ∷ getD xs 1 0 ∷ getD xs 2 0 ∷ getD xs 3 0 ∷ []
-four [] e = absurd (omega arith)
-four (a ∷ []) e = absurd (omega arith)
-four (a ∷ b ∷ []) e = absurd (omega arith)
-four (a ∷ b ∷ c ∷ []) e = absurd (omega arith)
-four (a ∷ b ∷ c ∷ d ∷ []) e = refl
-four (a ∷ b ∷ c ∷ d ∷ x ∷ xs) e = absurd (omega arith)
-
 pub word-length : (f : List ℕ) → wordOk f ≡ true → length f ≡ 4
 unfolding wordOk
 word-length f e = eqb-true (length f) 4 (and-true (eqb (length f) 4) (every isHex f) e .0)
 
-word-digits : (f : List ℕ) → wordOk f ≡ true → every isHex f ≡ true
+pub word-digits : (f : List ℕ) → wordOk f ≡ true → every isHex f ≡ true
 unfolding wordOk
 word-digits f e = and-true (eqb (length f) 4) (every isHex f) e .1
-
-pub word-hex : (f : List ℕ) → wordOk f ≡ true → (i : ℕ) → i < 4 → isHex (getD f i 0) ≡ true
-word-hex f e i h = every-is isHex f 0 (word-digits f e) i (rw (word-length f e) h)
-
-pub word-is : (f : List ℕ) → length f ≡ 4
-    → wordOf f ≡ word (hexDigit (getD f 0 0) * 16 + hexDigit (getD f 1 0)) (hexDigit (getD f 2 0) * 16 + hexDigit (getD f 3 0))
-unfolding hexFrom
-word-is f e = ap wordOf (four f e) ∙ omega arith
 
 -- ---- bytes
 pub pairs-next : (xs : List ℕ) (i : ℕ) → i + 1 < length xs
@@ -111,35 +94,17 @@ bytes-wider most wider f h e = by-dash (same f dash) refl
     by-dash true d = bytes-dash wider f d
     by-dash false d = let b = of-bytes most f d e in sym (bytes-if wider f d (b .least) (b .even) (omega arith)) ∙ b .digits
 
-pub no-bytes : (f : List ℕ) → same f dash ≡ true → bytesOf f ≡ []
-unfolding bytesOf
+pub no-bytes : (f : List ℕ) → same f dash ≡ true → bytesOfHex f ≡ []
+unfolding bytesOfHex
 no-bytes f d = yes-cond _ d
 
-pub some-bytes : (f : List ℕ) → same f dash ≡ false → bytesOf f ≡ pairs f
-unfolding bytesOf
+pub some-bytes : (f : List ℕ) → same f dash ≡ false → bytesOfHex f ≡ pairs f
+unfolding bytesOfHex
 some-bytes f d = no-cond _ d
 
-pub bytes-few : (most : ℕ) (f : List ℕ) → bytesOk most f ≡ true → length (bytesOf f) ≤ most
+pub bytes-few : (most : ℕ) (f : List ℕ) → bytesOk most f ≡ true → length (bytesOfHex f) ≤ most
 bytes-few most f e = by-dash (same f dash) refl
   where
-    by-dash : (t : Bool) → same f dash ≡ t → length (bytesOf f) ≤ most
+    by-dash : (t : Bool) → same f dash ≡ t → length (bytesOfHex f) ≤ most
     by-dash true d = rw (no-bytes f d) (omega arith)
     by-dash false d = let b = of-bytes most f d e in rw (some-bytes f d) (omega (arith, length-pairs f, b .few))
-
--- ---- the front of a lent output, element by element
-pub sets-past : (l : List ℕ) (i : ℕ) (vs : List ℕ) → length l ≤ i → sets l i vs ≡ l
-sets-past l i [] h = refl
-sets-past l i (v ∷ vs) h = sets-past (set l i v) (suc i) vs (rw length-set (omega arith)) ∙ set-out l i v h
-
-sets-under : (x : ℕ) (l : List ℕ) (i : ℕ) (vs : List ℕ) → sets (x ∷ l) (suc i) vs ≡ x ∷ sets l i vs
-sets-under x l i [] = refl
-sets-under x l i (v ∷ vs) = sets-under x (set l i v) (suc i) vs
-
-pub onto-sets : (vs l : List ℕ) → onto vs l ≡ sets l 0 vs
-unfolding onto
-onto-sets [] l = rw (take-nil (length l))
-onto-sets (v ∷ vs) [] = sym (sets-past [] 0 (v ∷ vs) (omega arith))
-onto-sets (v ∷ vs) (x ∷ l) = ap (λ (z : List ℕ). v ∷ z) (onto-sets vs l) ∙ sym (sets-under v l 0 vs)
-
-pub onto-none : (l : List ℕ) → onto [] l ≡ l
-onto-none l = onto-sets [] l

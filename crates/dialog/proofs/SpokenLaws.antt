@@ -5,15 +5,14 @@ use Rattle.units.proofs.Common.{_<_, arith, eqb, leb, ltb, length, drop, getD, 
 use Rattle.units.proofs.Common.{le-leb, eqb-true, leb-true, le-ltb, lt-ltb, every, yes-cond, no-cond, yes-or, no-or, and-true}
 use native.Mathlib.Decide.{decLt}
 use Rattle.meaning.proofs.Terms.{same, Call, command, check, arrive, leave, collect, acknowledge}
-use Rattle.dialog.specs.Fields.{fields, numberOk, wordOk, wordOf, bytesOk, bytesOf}
+use Rattle.dialog.specs.Fields.{fields, numberOk, wordOk, wordOf, bytesOk}
 use Rattle.dialog.specs.Spoken.{Spoken, passed, unreadable, call, look, callBy, spoken, saying, isForm, numbersOk, aNode}
-use Rattle.dialog.specs.Spoken.{aNodeAndNumber, aFirstAndACount, aStamp, aNodeAStampAndAClock, field, number, stampFrom}
+use Rattle.dialog.specs.Spoken.{aNodeAndNumber, aFirstAndACount, aStamp, aNodeAStampAndAClock, field, number}
 use Rattle.dialog.specs.Spoken.{commandOk, checkOk, arriveOk, leaveOk, collectOk, acknowledgeOk, storeOk}
-use Rattle.dialog.specs.Spoken.{commandSaid, checkSaid, arriveSaid, leaveSaid, collectSaid, acknowledgeSaid, storeSaid, formOf}
-use Rattle.dialog.specs.Spoken.{commandWords}
+use Rattle.dialog.specs.Spoken.{storeSaid}
 use Rattle.text.specs.Text.{ascii}
 use Rattle.dialog.proofs.HexLaws.{bytes-few}
-use Rattle.dialog.proofs.FieldLaws.{both, nowise, number-is, of-number}
+use Rattle.dialog.proofs.FieldLaws.{both, number-is, of-number}
 
 -- ---- numbers one after another
 and-assoc : (a b c : Bool) → ((a && b) && c) ≡ (a && (b && c))

@@ -64,5 +64,5 @@ pairs [] = []
 pairs (c ∷ []) = []
 pairs (c ∷ d ∷ cs) = (hexDigit c * 16 + hexDigit d) ∷ pairs cs
 
-unfoldable pub bytesOf : List ℕ → List ℕ
-bytesOf f = cond (same f dash) [] (pairs f)
+unfoldable pub bytesOfHex : List ℕ → List ℕ
+bytesOfHex f = cond (same f dash) [] (pairs f)

@@ -12,7 +12,7 @@ use Rattle.units.specs.declared.stamp.Stamp.{Stamp}
 use Rattle.text.specs.Text.{ascii}
 use Rattle.meaning.specs.Bench.{full}
 use Rattle.meaning.specs.Call.{Call, command, check, arrive, leave, collect, acknowledge, same}
-use Rattle.dialog.specs.Fields.{fields, valueOf, numberOk, wordOk, wordOf, bytesOk, bytesOf}
+use Rattle.dialog.specs.Fields.{fields, valueOf, numberOk, wordOk, wordOf, bytesOk, bytesOfHex}
 
 pub data Spoken : Type 0 where
   passed unreadable : Spoken
@@ -74,8 +74,8 @@ module _ (fs : List (List ℕ)) where
   unfoldable pub commandOk : Bool
   commandOk = numbersOk aStamp fs && isForm (field 5) && leb (length (drop 6 fs)) mostWords && every wordOk (drop 6 fs)
 
-  abbrev pub commandWords : List ℕ
-  commandWords = map wordOf (drop 6 fs)
+  abbrev pub packetSaid : List ℕ
+  packetSaid = map wordOf (drop 6 fs)
 
   -- "`check NODE MONTH DAY HOUR MINUTE SECOND CLOCK`"
   unfoldable pub checkOk : Bool
@@ -106,13 +106,13 @@ saying ok c = cond ok (call c) unreadable
 
 -- ---- the table: a call or a look by its first field, and the others
 abbrev pub commandSaid : List (List ℕ) → Spoken
-commandSaid fs = saying (commandOk fs) (command (stampFrom fs 0) (formOf (field fs 5)) (commandWords fs))
+commandSaid fs = saying (commandOk fs) (command (stampFrom fs 0) (formOf (field fs 5)) (packetSaid fs))
 
 abbrev pub checkSaid : List (List ℕ) → Spoken
 checkSaid fs = saying (checkOk fs) (check (number fs 0) (stampFrom fs 1) (number fs 6))
 
 abbrev pub arriveSaid : List (List ℕ) → Spoken
-arriveSaid fs = saying (arriveOk fs) (arrive (number fs 0) (bytesOf (field fs 1)) (bytesOf (field fs 2)))
+arriveSaid fs = saying (arriveOk fs) (arrive (number fs 0) (bytesOfHex (field fs 1)) (bytesOfHex (field fs 2)))
 
 abbrev pub leaveSaid : List (List ℕ) → Spoken
 leaveSaid fs = saying (leaveOk fs) (leave (number fs 0))
@@ -135,9 +135,9 @@ callBy w fs =
     (cond (same w (ascii "collect")) (collectSaid fs)
     (cond (same w (ascii "acknowledge")) (acknowledgeSaid fs) (cond (same w (ascii "store")) (storeSaid fs) unreadable))))))
 
--- "First of all its length is looked at: a line of more than 4,400 bytes before its line feed is unreadable, whatever it starts with ..
--- Then an empty line, and one whose first byte is `#`, are passed over .. Any other line that is no call of the table, to the byte .., is
--- unreadable."
+-- "First of all its length is looked at: a line of more than 4,400 bytes before its line feed is unreadable, whatever it starts with
+-- .. Then an empty line, and one whose first byte is `#`, are passed over .. Any other line that is no call of the table, to the byte
+-- .., is unreadable."
 unfoldable pub spoken : List ℕ → Spoken
 spoken line =
     cond (ltb 4400 (length line)) unreadable

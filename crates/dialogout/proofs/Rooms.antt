@@ -4,7 +4,7 @@ use Rattle.units.proofs.Common.{_≡_, refl, List, ℕ, _≤_, _<_, _^_, arith,
 use mir.Val.{Val}
 use denote.Shadow.{shadow}
 use Rattle.promise.proofs.Reply as the-reply
-use Rattle.promise.specs.Obeyed.{spoken}
+use Rattle.promise.specs.Obeyed.{saidOf}
 use Rattle.promise.specs.declared.Reply.{Reply}
 use Rattle.text.proofs.Writing.{length-words, decimal-short}
 use Rattle.listingout.proofs.Rooms.{refused-short}
@@ -25,8 +25,8 @@ store-short ws h = simp length-append (omega (arith, length-words ws))
 
 -- a reply, of which its owner knows that the number of a refusal is a byte
 pub said-short : (r : Reply) (vs : List Val) → shadow (the-reply.the-field .row .own (the-reply.the-type .to r) vs) → length
-    (saidLine (spoken r)) ≤ 14
-unfolding saidLine spoken
+    (saidLine (saidOf r)) ≤ 14
+unfolding saidLine saidOf
 said-short (Reply.Refused k) vs g = refused-short k (omega (arith, g .1 .1 .1 .1 .0 .1))
 said-short Reply.Done vs g = omega arith
 said-short Reply.Quiet vs g = omega arith

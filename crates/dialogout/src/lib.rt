@@ -14,7 +14,7 @@ ghost use lib.ListN.{length};
 ghost use Rattle.text.specs.Text.{Put};
 ghost use Rattle.meaning.specs.Packet.{overall};
 ghost use Rattle.meaning.specs.Response.{shown};
-ghost use Rattle.promise.specs.Obeyed.{spoken};
+ghost use Rattle.promise.specs.Obeyed.{saidOf};
 ghost use Rattle.dialog.specs.Dialog.{unreadableLine, collectedLine, saidLine, storeLine, longestAnswer};
 
 // No line out is longer, its line feed counted.
@@ -30,7 +30,7 @@ pub fn put_unreadable(out: &mut [u8], at: usize) -> usize
 // What is said to every call but collect.
 pub fn put_said(out: &mut [u8], at: usize, reply: Reply) -> usize
     requires { ⌜ at + 14 ≤ length (now out) ⌝ }
-    ensures { λ r. ⌜ Put (now (out .entry)) at (saidLine (spoken reply)) (now (out .exit)) r ⌝ }
+    ensures { λ r. ⌜ Put (now (out .entry)) at (saidLine (saidOf reply)) (now (out .exit)) r ⌝ }
 {
     match reply {
         Reply::Refused(number) => put_refused(out, at, number),

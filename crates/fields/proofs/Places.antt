@@ -1,12 +1,12 @@
 -- The fields from a place of a line on: where a field ends, whether there is one more, and whether all are words.
 -- Assumes nothing.
-use Rattle.units.proofs.Common.{sym, _∙_, _≡_, ap, subst, true, false, List, [], _∷_, ℕ, _≤_, _-_, _+_, _<_, suc, zero, ℕ-discrete, arith}
+use Rattle.units.proofs.Common.{sym, _∙_, _≡_, ap, true, false, Bool, List, [], _∷_, ℕ, _≤_, _-_, _+_, _<_, suc, zero, ℕ-discrete, arith}
 use Rattle.units.proofs.Common.{length, drop, getD, take, length-drop, drop-of-length-le, length-take-le, le-leb, lt-leb, every, yes-cond}
 use Rattle.units.proofs.Common.{no-cond}
 use native.Mathlib.Decide.{decLe}
 use Rattle.dialog.specs.Fields.{fields, wordOk}
 use Rattle.dialog.specs.Spoken.{field}
-use Rattle.dialog.proofs.FieldLaws.{next, fields-some, fields-none, fields-blank, fields-more}
+use Rattle.dialog.proofs.FieldLaws.{clash, next, every-split, fields-some, fields-none, fields-blank, fields-more}
 use Rattle.fields.specs.FieldsAt.{fieldsFrom, FieldAt, placeAfter, wordsAt}
 use Rattle.fields.specs.declared.hex.WordsRead.{WordsRead}
 
@@ -23,7 +23,7 @@ module _ (line : List ℕ) where
   from-some at h = rw (from-in at h) (fields-some (drop at line))
 
   -- at a blank, or at the line's end, the field is empty
-  none-left : (at : ℕ) (xs : List ℕ) → take (at - at) xs ≡ []
+  pub none-left : (at : ℕ) (xs : List ℕ) → take (at - at) xs ≡ []
   none-left at xs = let z : at - at ≡ 0 = omega arith in rw z
 
   pub at-blank : (at : ℕ) → at < length line → getD line at 0 ≡ 32 → FieldAt line at at
@@ -43,8 +43,8 @@ module _ (line : List ℕ) where
   }
 
   -- a byte that is no blank is the first of its field
-  one-more : (at r : ℕ) → at < length line → at + 1 ≤ r → getD line at 0 ∷ take (r - (at + 1)) (drop (at + 1) line) ≡ take (r - at)
-      (drop at line)
+  pub one-more : (at r : ℕ) → at < length line → at + 1 ≤ r → take (r - at) (drop at line) ≡ getD line at 0 ∷ take (r - (at + 1))
+      (drop (at + 1) line)
   one-more at r h g = let z : r - at ≡ suc (r - (at + 1)) = omega arith in rw (z, next line at 0 h)
 
   pub at-other : (at r : ℕ) → at < length line → (getD line at 0 ≡ 32 → ⊥) → FieldAt line (at + 1) r → FieldAt line at r
@@ -58,17 +58,13 @@ module _ (line : List ℕ) where
         most = f .most;
       }
 
-  -- four that are none, and a blank behind them
-  before-next : (at next r : ℕ) → next ≡ at + 1 → at < length line → (getD line at 0 ≡ 32 → ⊥) → FieldAt line next r → FieldAt line at r
-  before-next at next r e h d f = at-other at r h d (subst (λ (k : ℕ). FieldAt line k r) e f)
-
-  pub four-bytes : (at : ℕ) → at + 4 < length line → getD line (at + 4) 0 ≡ 32 → (getD line at 0 ≡ 32 → ⊥) → (getD line (at + 1) 0 ≡ 32 → ⊥)
-      → (getD line (at + 2) 0 ≡ 32 → ⊥) → (getD line (at + 3) 0 ≡ 32 → ⊥) → FieldAt line at (at + 4)
-  four-bytes at h e a b c d =
-      before-next at (at + 1) (at + 4) (omega arith) (omega arith) a
-      (before-next (at + 1) (at + 2) (at + 4) (omega arith) (omega arith) b
-      (before-next (at + 2) (at + 3) (at + 4) (omega arith) (omega arith) c
-      (before-next (at + 3) (at + 4) (at + 4) (omega arith) (omega arith) d (at-blank (at + 4) h e))))
+  -- bytes that pass a test which no blank passes are of one field
+  pub through : (t : ℕ → Bool) → t 32 ≡ false → (k at e r : ℕ) → at + k ≡ e → e ≤ length line → every t (take k (drop at line)) ≡ true
+      → FieldAt line e r → FieldAt line at r
+  through t n zero at e r s h y f = let z : at ≡ e = omega arith in rw z f
+  through t n (suc k) at e r s h y f =
+      let p = every-split t (ap (take (suc k)) (next line at 0 (omega arith))) y in
+      at-other at r (omega arith) (λ b. clash (sym (ap t b)) n (p .0)) (through t n k (at + 1) e r (omega arith) h (p .1) f)
 
   -- ---- the place after a field
   pub after-field : (at r : ℕ) → FieldAt line at r → placeAfter line at ≡ r + 1
@@ -84,19 +80,19 @@ module _ (line : List ℕ) where
   unfolding placeAfter
   after-past at h = no-cond _ (lt-leb at (length line) h)
 
-  -- every field ends somewhere
-  ends : (k at : ℕ) → at + k ≡ length line → (r : ℕ) × FieldAt line at r
-  ends zero at e = (at, at-end at (omega arith))
+  -- every field ends somewhere: at a blank, or with the line
+  pub ends : (k at : ℕ) → at + k ≡ length line → (r : ℕ) × FieldAt line at r × (r < length line → getD line r 0 ≡ 32)
+  ends zero at e = (at, at-end at (omega arith), λ h. absurd (omega arith))
   ends (suc k) at e = elim (ℕ-discrete (getD line at 0) 32) [
-    | yes b ↦ (at, at-blank at (omega arith) b)
-    | no d ↦ let (r, f) = ends k (at + 1) (omega arith) in (r, at-other at r (omega arith) d f)
+    | yes b ↦ (at, at-blank at (omega arith) b, λ h. b)
+    | no d ↦ let (r, f, b) = ends k (at + 1) (omega arith) in (r, at-other at r (omega arith) d f, b)
   ]
 
   -- so what stands from there on is the rest
   pub after-rest : (at : ℕ) → fieldsFrom line (placeAfter line at) ≡ drop 1 (fieldsFrom line at)
   after-rest at = elim (decLe at (length line)) [
     | yes h ↦
-        let (r, f) = ends (length line - at) at (omega arith) in
+        let (r, f, b) = ends (length line - at) at (omega arith) in
         ap (fieldsFrom line) (after-field at r f) ∙ sym (ap (drop 1) (f .first))
     | no h ↦
         let e : fieldsFrom line at ≡ [] = from-past at (omega arith) in

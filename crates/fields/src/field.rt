@@ -1,8 +1,9 @@
 // The fields of a line, and the words of the table.
 use units::Form;
 ghost use mathlib.Core.Path.{_≡_};
-ghost use Prim.Native.Nat.{_≤_};
-ghost use lib.ListN.{length};
+ghost use mathlib.Core.Bool.{true, false};
+ghost use Prim.Native.Nat.{_<_, _≤_};
+ghost use lib.ListN.{length, getD};
 ghost use Rattle.meaning.specs.Call.{same};
 ghost use Rattle.dialog.specs.Spoken.{isForm, formOf};
 ghost use Rattle.fields.specs.FieldsAt.{FieldAt, verbOf};
@@ -24,16 +25,25 @@ pub struct FormRead {
     pub form: Form,
 }
 
+// Whether the field at a place goes on there: the line does not end, and no blank stands there.
+pub fn goes_on(line: &[u8], at: usize) -> bool
+    requires { ⌜ at ≤ length (now line) ⌝ }
+    ensures { λ r. ⌜ (r ≡ true → (at < length (now (line .entry))) × (getD (now (line .entry)) at 0 ≡ 32 → ⊥)) ⌝ }
+    ensures { λ r. ⌜ (r ≡ false → FieldAt (now (line .entry)) at at) ⌝ }
+{
+    if line.len() <= at {
+        return false;
+    }
+    line[at] != b' '
+}
+
 // Where the field that begins at a place ends: at the next blank, or with the line.
 pub fn field_end(line: &[u8], at: usize) -> usize
     requires { ⌜ at ≤ length (now line) ⌝ }
     ensures { λ r. ⌜ FieldAt (now (line .entry)) at r ⌝ }
 {
     let mut end = at;
-    while end < line.len() {
-        if line[end] == b' ' {
-            return end;
-        }
+    while goes_on(line, end) {
         end += 1;
     }
     end

@@ -1,17 +1,19 @@
-// Words and bytes in hexadecimal digits.
-use crate::field::field_end;
+// Words and bytes in hexadecimal digits. They are judged before the first is put, in a pass of their own: where a line is unreadable, what
+// was lent for them stays as it was.
+use crate::field::goes_on;
 use crate::field::is_same;
 use crate::number::both;
 use crate::number::is_within;
 use units::Bytes;
 ghost use mathlib.Core.Path.{_≡_};
 ghost use mathlib.Core.Bool.{true, _||_};
-ghost use Prim.Native.Nat.{_+_, _*_, _<_, _≤_};
-ghost use lib.ListN.{length};
+ghost use Prim.Native.Nat.{_+_, _*_, _%_, _<_, _≤_};
+ghost use lib.ListN.{length, take, drop};
 ghost use Rattle.units.specs.Count.{every};
-ghost use Rattle.units.specs.Packing.{onto};
-ghost use Rattle.dialog.specs.Fields.{isHex, hexDigit, wordOk, wordOf, bytesOk, bytesOf};
-ghost use Rattle.fields.specs.FieldsAt.{FieldAt, fieldsFrom, wordsAt, wordsFrom};
+ghost use lib.Seq.{sets};
+ghost use Rattle.dialog.specs.Fields.{isHex, hexDigit, wordOk, wordOf, bytesOk, pairs, bytesOfHex};
+ghost use Rattle.dialog.specs.Spoken.{field};
+ghost use Rattle.fields.specs.FieldsAt.{fieldsFrom, wordsAt, wordsFrom};
 
 // How many fields from a place on are words, where all are. A line may have more than a word can say, so this is no Words.
 pub struct WordsRead {
@@ -63,59 +65,52 @@ fn byte_of(high: u8, low: u8) -> u8
     digit_of(high) * 16 + digit_of(low)
 }
 
-fn is_word(field: &[u8]) -> bool
-    ensures { λ r. ⌜ r ≡ wordOk (now (field .entry)) ⌝ }
+// Whether the field at a place is a word: four digits, behind which it goes on no more. So its end is not looked for.
+fn is_word(line: &[u8], at: usize) -> bool
+    requires { ⌜ at ≤ length (now line) ⌝ }
+    ensures { λ r. ⌜ r ≡ wordOk (field (fieldsFrom (now (line .entry)) at) 0) ⌝ }
 {
-    if field.len() != 4 {
+    if line.len() - at < 4 {
         return false;
     }
-    all_hex(field)
+    if goes_on(line, at + 4) {
+        return false;
+    }
+    both(
+        is_hex(line[at]),
+        both(
+            is_hex(line[at + 1]),
+            both(is_hex(line[at + 2]), is_hex(line[at + 3])),
+        ),
+    )
 }
 
-fn word_of(field: &[u8]) -> u16
-    requires { ⌜ wordOk (now field) ≡ true ⌝ }
-    ensures { λ r. ⌜ r ≡ wordOf (now (field .entry)) ⌝ }
+// Four digits at a place, as a word.
+fn word_of(line: &[u8], at: usize) -> u16
+    requires { ⌜ (at + 4 ≤ length (now line)) × (wordOk (take 4 (drop at (now line))) ≡ true) ⌝ }
+    ensures { λ r. ⌜ r ≡ wordOf (take 4 (drop at (now (line .entry)))) ⌝ }
 {
-    units::packing::word(byte_of(field[0], field[1]), byte_of(field[2], field[3]))
+    units::packing::word(
+        byte_of(line[at], line[at + 1]),
+        byte_of(line[at + 2], line[at + 3]),
+    )
 }
 
-// Where the field that begins at a place ends; where it is a word, that is seen at once.
-fn word_end(line: &[u8], at: usize) -> usize
-    requires { ⌜ at ≤ length (now line) ⌝ }
-    ensures { λ r. ⌜ FieldAt (now (line .entry)) at r ⌝ }
-{
-    if line.len() - at < 5 {
-        return field_end(line, at);
-    }
-    let end = at + 4;
-    if line[end] != b' ' {
-        return field_end(line, at);
-    }
-    if line[at] == b' ' || line[at + 1] == b' ' {
-        return field_end(line, at);
-    }
-    if line[at + 2] == b' ' || line[at + 3] == b' ' {
-        return field_end(line, at);
-    }
-    end
-}
-
-// The words from a place to the line's end, counted.
+// The words from a place to the line's end, counted: each begins five bytes after the one before.
 pub fn count_words(line: &[u8], at: usize) -> WordsRead
     ensures { λ r. ⌜ r ≡ wordsAt (now (line .entry)) at ⌝ }
 {
     let mut from = at;
     let mut n = 0;
     while from <= line.len() {
-        let end = word_end(line, from);
-        if !is_word(&line[from..end]) {
+        if !is_word(line, from) {
             return WordsRead {
                 ok: false,
                 words: 0,
             };
         }
         n += 1;
-        from = end + 1;
+        from += 5;
     }
     WordsRead { ok: true, words: n }
 }
@@ -123,7 +118,7 @@ pub fn count_words(line: &[u8], at: usize) -> WordsRead
 // And put to the front of out, as many as it has room for.
 pub fn put_words(line: &[u8], at: usize, out: &mut [u16])
     requires { ⌜ every wordOk (fieldsFrom (now line) at) ≡ true ⌝ }
-    ensures { λ _. ⌜ now (out .exit) ≡ onto (wordsFrom (now (line .entry)) at) (now (out .entry)) ⌝ }
+    ensures { λ _. ⌜ now (out .exit) ≡ sets (now (out .entry)) 0 (wordsFrom (now (line .entry)) at) ⌝ }
 {
     let mut from = at;
     let mut i = 0;
@@ -131,10 +126,9 @@ pub fn put_words(line: &[u8], at: usize, out: &mut [u16])
         if line.len() < from {
             return;
         }
-        let end = word_end(line, from);
-        out[i] = word_of(&line[from..end]);
+        out[i] = word_of(line, from);
         i += 1;
-        from = end + 1;
+        from += 5;
     }
 }
 
@@ -158,25 +152,32 @@ pub fn is_bytes(field: &[u8], most: Bytes) -> bool
     all_hex(field)
 }
 
-// A field's bytes, put to the front of out, as many as it has room for; how many there are.
-pub fn put_bytes(field: &[u8], most: Bytes, out: &mut [u8]) -> Bytes
-    requires { ⌜ bytesOk (most .0) (now field) ≡ true ⌝ }
-    ensures { λ r. ⌜ r .0 ≡ length (bytesOf (now (field .entry))) ⌝ }
-    ensures { λ _. ⌜ now (out .exit) ≡ onto (bytesOf (now (field .entry))) (now (out .entry)) ⌝ }
+// The bytes of a field of digits, two a byte, put to the front of out, as many as it has room for.
+fn put_pairs(field: &[u8], out: &mut [u8])
+    requires { ⌜ (length (now field) % 2 ≡ 0) × (every isHex (now field) ≡ true) ⌝ }
+    ensures { λ _. ⌜ now (out .exit) ≡ sets (now (out .entry)) 0 (pairs (now (field .entry))) ⌝ }
 {
-    if is_same(field, b"-") {
-        return Bytes(0);
-    }
-    let n = (field.len() / 2) as u16;
     let mut i = 0;
     let mut at = 0;
     while i < out.len() {
         if field.len() <= at {
-            return Bytes(n);
+            return;
         }
         out[i] = byte_of(field[at], field[at + 1]);
         i += 1;
         at += 2;
     }
-    Bytes(n)
+}
+
+// A field's bytes, put to the front of out, as many as it has room for; how many there are.
+pub fn put_bytes(field: &[u8], most: Bytes, out: &mut [u8]) -> Bytes
+    requires { ⌜ bytesOk (most .0) (now field) ≡ true ⌝ }
+    ensures { λ r. ⌜ r .0 ≡ length (bytesOfHex (now (field .entry))) ⌝ }
+    ensures { λ _. ⌜ now (out .exit) ≡ sets (now (out .entry)) 0 (bytesOfHex (now (field .entry))) ⌝ }
+{
+    if is_same(field, b"-") {
+        return Bytes(0);
+    }
+    put_pairs(field, out);
+    Bytes((field.len() / 2) as u16)
 }

@@ -1,12 +1,14 @@
 // Numbers, nodes and stamps, one field after another.
 use crate::field::field_end;
+use crate::field::goes_on;
 use units::stamp::Stamp;
 ghost use mathlib.Core.Path.{_≡_};
 ghost use mathlib.Core.Bool.{false, _&&_};
+ghost use Prim.Native.Nat.{_+_, _-_, _*_, _<_, _≤_};
 ghost use Rattle.units.specs.Count.{within};
-ghost use Rattle.fields.specs.FieldsAt.{numberIn, numberAt, nodeAt, stampAt};
+ghost use Rattle.fields.specs.FieldsAt.{numberAt, nodeAt, stampAt};
 
-// Whether a field is a number within its limit, and which.
+// Whether a field is a number within its limit, and which: what the definitions say of a field by itself.
 pub struct Number {
     pub ok: bool,
     pub value: u32,
@@ -31,75 +33,61 @@ pub struct StampRead {
     pub next: usize,
 }
 
-// A byte from one to another, both included.
-pub fn is_within(from: u8, to: u8, c: u8) -> bool
-    ensures { λ r. ⌜ r ≡ within from to c ⌝ }
-{
-    if c < from {
-        return false;
-    }
-    c <= to
-}
-
 pub fn both(a: bool, b: bool) -> bool
     ensures { λ r. ⌜ r ≡ (a && b) ⌝ }
 {
     if a { b } else { false }
 }
 
-fn no_number() -> Number
-    ensures { λ r. ⌜ r ≡ record { ok = false; value = 0 } ⌝ }
+// A byte from one to another, both included.
+pub fn is_within(from: u8, to: u8, c: u8) -> bool
+    ensures { λ r. ⌜ r ≡ within from to c ⌝ }
 {
-    Number {
+    both(from <= c, c <= to)
+}
+
+// No number at a place, and the place of the field after it.
+fn no_number(next: usize) -> NumberRead
+    ensures { λ r. ⌜ r ≡ record { ok = false; value = 0; next = next } ⌝ }
+{
+    NumberRead {
         ok: false,
         value: 0,
+        next,
     }
 }
 
-fn number_of(field: &[u8], most: u32) -> Number
-    ensures { λ r. ⌜ r ≡ numberIn most (now (field .entry)) ⌝ }
+// One digit more. Ten of them fit 64 bits.
+fn with_digit(value: u64, c: u8) -> u64
+    requires { ⌜ (value < 10000000000) × (48 ≤ c) × (c ≤ 57) ⌝ }
+    ensures { λ r. ⌜ r ≡ value * 10 + (c - 48) ⌝ }
 {
-    let n = field.len();
-    if n < 1 {
-        return no_number();
-    }
-    if 10 < n {
-        return no_number();
-    }
-    let mut value: u64 = 0;
-    let mut i = 0;
-    while i < n {
-        let c = field[i];
-        if !is_within(b'0', b'9', c) {
-            return no_number();
-        }
-        value = value * 10 + (c - b'0') as u64;
-        i += 1;
-    }
-    if (most as u64) < value {
-        return no_number();
-    }
-    Number {
-        ok: true,
-        value: value as u32,
-    }
+    value * 10 + (c - b'0') as u64
 }
 
+// In one pass: only behind a byte with which the field is no number its end is looked for.
 pub fn read_number(line: &[u8], at: usize, most: u32) -> NumberRead
     ensures { λ r. ⌜ r ≡ numberAt most (now (line .entry)) at ⌝ }
 {
     if line.len() < at {
-        return NumberRead {
-            ok: false,
-            value: 0,
-            next: at,
-        };
+        return no_number(at);
     }
-    let end = field_end(line, at);
-    let n = number_of(&line[at..end], most);
+    let mut value: u64 = 0;
+    let mut end = at;
+    while goes_on(line, end) {
+        let c = line[end];
+        if !both(end - at < 10, is_within(b'0', b'9', c)) {
+            return no_number(field_end(line, end + 1) + 1);
+        }
+        value = with_digit(value, c);
+        end += 1;
+    }
+    if !both(1 <= end - at, value <= (most as u64)) {
+        return no_number(end + 1);
+    }
     NumberRead {
-        ok: n.ok,
-        value: n.value,
+        ok: true,
+        value: value as u32,
         next: end + 1,
     }
 }

@@ -1,8 +1,9 @@
 -- Laws of comparing a written packet with the words lent, element by element.
 -- Assumes nothing.
-use Rattle.units.proofs.Common.{sym, _∙_, _≡_, refl, ap, true, false, Bool, cond, _&&_, List, [], _∷_, ℕ, _≤_, _+_, _<_, ℕ-discrete, arith}
+use Rattle.units.proofs.Common.{sym, _∙_, _≡_, refl, ap, true, false, Bool, _&&_, List, [], _∷_, ℕ, _≤_, _+_, _<_, ℕ-discrete, arith}
 use Rattle.units.proofs.Common.{eqb, length, drop, getD, take, drop-of-length-le, length-take-le, take-at, getD-take, eq-eqb, ne-eqb}
 use Rattle.units.proofs.Common.{yes-and, no-and, yes-cond}
+use Rattle.units.proofs.PackingLaws.{sets-fits}
 use Rattle.text.proofs.Writing.{text-next}
 use Rattle.units.specs.declared.Words.{Words}
 use Rattle.meaning.specs.declared.packet.Written.the-variants.{Refused, Done}
@@ -66,15 +67,17 @@ refused n count k e =
     let q : _≡_ {A = ℕ} 0 1 = cc in
     omega arith)
 
-pub compared : (n count : ℕ) (k : Words) (ws vs out : List ℕ) → length vs ≡ count → writtenCount n count ≡ Done k
+pub compared : (n count : ℕ) (k : Words) (ws vs out : List ℕ) → length vs ≡ count → (n ≡ 0 → count ≤ length out)
+    → writtenCount n count ≡ Done k
     → (eqb (k .0) (length ws) && same ws (take (k .0) (writtenOutput n vs out))) ≡ (eqb n 0 && same ws vs)
 unfolding writtenCount writtenOutput
-compared n count k ws vs out l e =
+compared n count k ws vs out l room e =
     let d = unrefused n (Done (record { 0 = count })) (Refused n) (Done k) (λ q. let z : _≡_ {A = ℕ} 0 1 = cc in omega arith) e in
     let t : eqb n 0 ≡ true = eq-eqb n 0 (d .0) in
     let c : length vs ≡ k .0 = l ∙ (cc (d .1)) in
     ap (λ (x : List ℕ). eqb (k .0) (length ws) && same ws (take (k .0) x)) (yes-cond out t)
-    ∙ ap (λ (x : List ℕ). eqb (k .0) (length ws) && same ws x) (take-at vs (drop (length vs) out) (k .0) c)
+    ∙ ap (λ (x : List ℕ). eqb (k .0) (length ws) && same ws x)
+    (ap (take (k .0)) (sets-fits vs out (omega (arith, l, room (d .0)))) ∙ take-at vs (drop (length vs) out) (k .0) c)
     ∙ ap (λ (x : ℕ). eqb x (length ws) && same ws vs) (sym c)
     ∙ same-counted ws vs
     ∙ sym (yes-and t)

@@ -1,7 +1,8 @@
 -- The oldest answer of a list, and an acknowledgement of it: on any machine whose parts were given.
 -- Assumes nothing.
-use Rattle.units.proofs.Common.{sym, _∙_, _≡_, refl, ap, subst, true, List, _∷_, ℕ, _<_, arith, getD, set, set-getD}
+use Rattle.units.proofs.Common.{sym, _∙_, _≡_, refl, true, List, _∷_, ℕ, _<_, arith, getD, set, set-getD}
 use Rattle.units.specs.declared.Words.{Words}
+use Rattle.meaning.specs.Bench.{nodeCount}
 use Rattle.meaning.proofs.Terms.{full, isNode, setNode, taken, acknowledge, Said, refused, answered, done, step}
 use Rattle.state.proofs.Terms.{freshNode, takenNode, Machine, machine, meaning, nodeSlot, counts, unfit}
 use Rattle.state.specs.declared.node.Node.{Node}
@@ -22,8 +23,8 @@ module _ {i : ℕ} {own : Node} {held : List Words} (s : State) (store memory : 
   abbrev m : Machine
   m = machine s store memory
 
-  pub inside : i < 17
-  inside = omega (arith, at, node-inside full n 17 is refl)
+  pub inside : i < nodeCount full
+  inside = omega (arith, at, node-inside full n (nodeCount full) is refl)
 
   pub here : Found m n i
   here = record { is = is; slot = at; at = sym (node-any (s .nodes) i (omega (arith, inside, parts full m fit .eachNode))) }
@@ -32,17 +33,17 @@ module _ {i : ℕ} {own : Node} {held : List Words} (s : State) (store memory : 
   own-is = sym (here .at) ∙ a .node
 
   pub waits : 0 < getD (s .nodes) i blank .answers
-  waits = subst (λ (x : Node). 0 < x .answers) (sym own-is) some
+  waits = rw own-is some
 
   -- it stands at the node's place
   abbrev pub first : List ℕ
   first = oldest full m fit n i (here .is) (here .slot) (getD (s .nodes) i blank) (here .at) waits
 
   pub lies : (place : ℕ) → place ≡ placeOf (counts held) i → Stands m place first
-  lies place e = stands m fit n i here waits place (e ∙ ap (λ (l : List Words). placeOf (counts l) i) (sym (a .helds)))
+  lies place e = stands m fit n i here waits place (rw (a .helds) e)
 
   pub slot-takeable : Takeable full held i store
-  slot-takeable = subst (λ (l : List Words). Takeable full l i store) (a .helds) (takeable m fit n i here waits)
+  slot-takeable = rw (← (a .helds)) (takeable m fit n i here waits)
 
   pub first-is : (ws : List (List ℕ)) × (meaning full m .nodes n .pending ≡ first ∷ ws)
   first-is = oldest-first full m fit n i (here .is) (here .slot) (getD (s .nodes) i blank) (here .at) waits
@@ -51,17 +52,13 @@ module _ {i : ℕ} {own : Node} {held : List Words} (s : State) (store memory : 
   pub slot-taken : {store′ : List ℕ} {hs : List Words} {x : Node} → Takes full held i store store′ hs → x ≡ takenNode own
       → Means full (machine (withLists s (set (s .nodes) i x) hs) store′ memory)
       (setNode n (taken (meaning full m .nodes n)) (meaning full m))
-  slot-taken {store′} {hs} {x} t y =
-      let z : x ≡ takenNode (getD (s .nodes) i blank) = y ∙ ap takenNode (sym own-is) in
-      let u : Takes full (s .held) i store store′ hs = subst (λ (h : List Words). Takes full h i store store′ hs) (sym (a .helds)) t in
+  slot-taken {store′} t y =
       taken-changed full m fit n i (here .is) (here .slot) (getD (s .nodes) i blank) (here .at) waits store′ _
-      (taken-listed m fit n i here waits u z)
+      (taken-listed m fit n i here waits (rw (a .helds) t) (rw own-is y))
 
 -- ---- the parts put back as they were
 pub slot-back : {i : ℕ} {own : Node} {held : List Words} (s : State) → Slot i own held s → withLists s (set (s .nodes) i own) held ≡ s
-slot-back {i} {own} {held} s a =
-    ap (λ (l : List Node). withLists s l held) (ap (set (s .nodes) i) (sym (a .node)) ∙ set-getD (s .nodes) i freshNode)
-    ∙ ap (withLists s (s .nodes)) (sym (a .helds))
+slot-back {i} s a = rw (← (a .node), ← (a .helds), set-getD (s .nodes) i freshNode)
 
 -- ---- an acknowledgement there, by what it returns
 module _ {i : ℕ} {own : Node} {held : List Words} (s : State) (store memory : List ℕ) (fit : unfit full (machine s store memory) ≡ 0)
@@ -73,9 +70,7 @@ module _ {i : ℕ} {own : Node} {held : List Words} (s : State) (store memory : 
 
   refusing : (k : ℕ) → Obeyed full (acknowledge n number) (machine s store memory) (refused k) (machine s store memory)
       → Acked (refused k) (withLists s (set (s .nodes) i own) held) store
-  refusing k d =
-      subst (λ (t : State). Acked (refused k) t store) (sym (slot-back s a))
-      (by-fit full (machine s store memory) fit (acknowledge n number) (refused k) _ d)
+  refusing k d = rw (slot-back s a) (by-fit full (machine s store memory) fit (acknowledge n number) (refused k) _ d)
 
   pub acks-14 : own .answers ≡ 0 → Acked (refused 14) (withLists s (set (s .nodes) i own) held) store
   acks-14 e = refusing 14 (acked-14 full (machine s store memory) fit n number i is at own (a .node) e)
@@ -87,9 +82,8 @@ module _ {i : ℕ} {own : Node} {held : List Words} (s : State) (store memory : 
     pub acks-0 : number ≡ own .handover → {store′ : List ℕ} {hs : List Words} {x : Node} → Takes full held i store store′ hs
         → x ≡ takenNode own
         → Acked (answered done) (withLists s (set (s .nodes) i x) hs) store′
-    acks-0 e {store′} {hs} t y =
-        let u : Takes full (s .held) i store store′ hs = subst (λ (h : List Words). Takes full h i store store′ hs) (sym (a .helds)) t in
+    acks-0 e t y =
         by-fit full (machine s store memory) fit (acknowledge n number) (answered done) _
         (acked-0 full (machine s store memory) fit n number i is at own (a .node) some e _ _
-        (taken-listed (machine s store memory) fit n i (here s store memory fit n is at a some) (waits s store memory fit n is at a some) u
-        (y ∙ ap takenNode (sym (own-is s store memory fit n is at a some)))))
+        (taken-listed (machine s store memory) fit n i (here s store memory fit n is at a some) (waits s store memory fit n is at a some)
+        (rw (a .helds) t) (rw (own-is s store memory fit n is at a some) y)))

@@ -2,6 +2,7 @@
 -- Assumes nothing.
 use Rattle.units.proofs.Common.{sym, _∙_, _≡_, refl, ap, subst, true, false, Bool, cond, List, ℕ, _≤_, _+_, _<_, arith, length, drop, getD}
 use Rattle.units.proofs.Common.{take, set, getD-drop, eq-eqb, yes-cond, no-cond}
+use Rattle.meaning.specs.Bench.{nodeCount}
 use Rattle.meaning.proofs.Terms.{Bench, full, isNode, Call, Said, refused, Outcome, step, overall}
 use Rattle.state.proofs.Terms.{Machine, nodeSlot, nodesIn, meaning, freshNode, takenNode, counts, unfit}
 use Rattle.state.specs.declared.node.Node.{Node}
@@ -9,7 +10,7 @@ use Rattle.store.specs.Changes.{withLists, Listed, takenAt}
 use Rattle.store.specs.Swept.{Takeable, Takes}
 use Rattle.units.specs.declared.Words.{Words}
 use Rattle.state.proofs.Read.{blank, node-any}
-use Rattle.promise.specs.Obeyed.{spoken, Does, Obeyed, expected, Makes}
+use Rattle.promise.specs.Obeyed.{saidOf, Does, Obeyed, expected, Makes}
 use Rattle.promise.specs.declared.Reply.{Reply}
 use Rattle.promise.specs.declared.Called.{Called}
 use Rattle.lists.specs.Room.{placeOf}
@@ -18,20 +19,21 @@ use Rattle.promise.proofs.Oldest.{takes, oldest}
 use Rattle.promise.proofs.Tables.{node-inside}
 
 -- ---- the slot that is found for a node, 17 for none
-module _ (n i : ℕ) (e : i ≡ cond (isNode full n) (nodeSlot full n) 17) where
-  pub slot-out : 17 ≤ i → isNode full n ≡ false
-  slot-out h = go (isNode full n) refl
+module _ (n i : ℕ) (e : i ≡ cond (isNode full n) (nodeSlot full n) (nodeCount full)) where
+  pub slot-out : nodeCount full ≤ i → isNode full n ≡ false
+  slot-out h = by (isNode full n) refl
     where
-      go : (t : Bool) → isNode full n ≡ t → isNode full n ≡ false
-      go true p = let k = node-inside full n 17 p refl in let q : i ≡ nodeSlot full n = e ∙ yes-cond 17 p in absurd (omega arith)
-      go false p = p
+      by : (t : Bool) → isNode full n ≡ t → isNode full n ≡ false
+      by true p = let k = node-inside full n (nodeCount full) p refl in let q : i ≡ nodeSlot full n = e ∙ yes-cond
+          (nodeCount full) p in absurd (omega arith)
+      by false p = p
 
-  slot-in : i < 17 → (isNode full n ≡ true) × (nodeSlot full n ≡ i)
-  slot-in h = go (isNode full n) refl
+  slot-in : i < nodeCount full → (isNode full n ≡ true) × (nodeSlot full n ≡ i)
+  slot-in h = by (isNode full n) refl
     where
-      go : (t : Bool) → isNode full n ≡ t → (isNode full n ≡ true) × (nodeSlot full n ≡ i)
-      go true p = (p, sym (e ∙ yes-cond 17 p))
-      go false p = let q : i ≡ 17 = e ∙ no-cond (nodeSlot full n) p in absurd (omega arith)
+      by : (t : Bool) → isNode full n ≡ t → (isNode full n ≡ true) × (nodeSlot full n ≡ i)
+      by true p = (p, sym (e ∙ yes-cond (nodeCount full) p))
+      by false p = let q : i ≡ nodeCount full = e ∙ no-cond (nodeSlot full n) p in absurd (omega arith)
 
 -- a node with a slot: what the code reads there is what stands there
 pub record Found (m : Machine) (n i : ℕ) : Type 0 where
@@ -39,7 +41,8 @@ pub record Found (m : Machine) (n i : ℕ) : Type 0 where
   pub slot : nodeSlot full n ≡ i
   pub at : getD (m .state .nodes) i freshNode ≡ getD (m .state .nodes) i blank
 
-pub found : (m : Machine) → unfit full m ≡ 0 → (n i : ℕ) → i ≡ cond (isNode full n) (nodeSlot full n) 17 → i < 17 → Found m n i
+pub found : (m : Machine) → unfit full m ≡ 0 → (n i : ℕ) → i ≡ cond (isNode full n) (nodeSlot full n)
+    (nodeCount full) → i < nodeCount full → Found m n i
 found m fits n i e h =
     let p = slot-in n i e h in
     record { is = p .0; slot = p .1; at = sym (node-any (m .state .nodes) i (omega (arith, parts full m fits .eachNode))) }
@@ -74,7 +77,7 @@ module _ (m : Machine) (fits : unfit full m ≡ 0) (n i : ℕ) (f : Found m n i)
   takeable =
       let k = takes full m fits n i (f .is) (f .slot) (getD (m .state .nodes) i blank) (f .at) some in
       record {
-        index = omega (arith, f .slot, node-inside full n 17 (f .is) refl);
+        index = omega (arith, f .slot, node-inside full n (nodeCount full) (f .is) refl);
         least = omega (arith, k .says, k .least);
         own = omega (arith, k .says, k .own);
         before = omega (arith, k .says, k .before);
@@ -96,7 +99,5 @@ module _ (b : Bench) (m : Machine) (fits : unfit b m ≡ 0) (c : Call) where
 
   pub refusing : (k : ℕ) (r : Called) → r ≡ record { reply = Reply.Refused k; state = m .state } → Obeyed b c m (refused k) m
       → Makes b (λ g. step b g c) (m .state) (m .store) (m .memory) r (m .store) (m .memory)
-  unfolding spoken
-  refusing k r e d =
-      subst (λ (r : Called). Makes b (λ g. step b g c) (m .state) (m .store) (m .memory) r (m .store) (m .memory)) (sym e)
-      (by-fit (refused k) m d)
+  unfolding saidOf
+  refusing k r e d = rw e (by-fit (refused k) m d)

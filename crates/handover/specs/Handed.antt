@@ -1,5 +1,4 @@
--- The oldest answer of a node handed over, on the parts of the state that its list has: what then holds of every machine that they are the
--- parts of.
+-- The oldest answer of a node handed over, on the parts of the state that its list has: what then holds of every machine with these parts.
 -- Assumes nothing.
 use Prim.Native.Nat.{ℕ, _<_}
 use mathlib.Core.Path.{_≡_}
@@ -15,7 +14,7 @@ use Rattle.state.specs.Consistent.{unfit}
 use Rattle.state.specs.declared.node.Node.{Node}
 use Rattle.state.specs.declared.State.{State}
 use Rattle.store.specs.Changes.{withLists}
-use Rattle.promise.specs.Obeyed.{spoken, Does}
+use Rattle.promise.specs.Obeyed.{saidOf, Does}
 use Rattle.handover.specs.declared.Listed.{Listed}
 
 -- the node at an index, and the words that all nodes hold, of a state
@@ -53,5 +52,5 @@ abbrev pub Acknowledges : Bench → ℕ → ℕ → Node → List Words → List
 Acknowledges b number i own held store r store′ =
     (n : ℕ) → isNode b n ≡ true → nodeSlot b n ≡ i → (s : State) (memory : List ℕ) → Slot i own held s → unfit b (machine s store memory) ≡
     0
-    → Does b (step b (meaning b (machine s store memory)) (acknowledge n number)) (machine s store memory) (spoken (r .reply))
+    → Does b (step b (meaning b (machine s store memory)) (acknowledge n number)) (machine s store memory) (saidOf (r .reply))
     (machine (listed s i r) store′ memory)

@@ -21,7 +21,7 @@ ghost use Rattle.meaning.specs.Bench.{full};
 ghost use Rattle.meaning.specs.Call.{collect, acknowledge, step};
 ghost use Rattle.state.specs.Machine.{machine};
 ghost use Rattle.state.specs.Consistent.{unfit};
-ghost use Rattle.moves.specs.Moved.{putIn};
+ghost use lib.Seq.{sets};
 ghost use Rattle.promise.specs.Obeyed.{Makes, Collects};
 ghost use Rattle.handover.specs.Handed.{Listable, Acknowledges};
 
@@ -34,30 +34,23 @@ pub fn acknowledge(s: State, node: u8, number: u16, store: &mut [u16], plaques: 
     if NODES <= i {
         return refused(s, 7);
     }
-    let n = s.nodes[i];
-    if n.answers == 0 {
-        return refused(s, 14);
-    }
-    if number != n.handover {
-        return refused(s, 15);
-    }
+    let own = s.nodes[i];
     let held = s.held;
-    let hs = take(held, i, store);
-    let m = n.taken();
+    let r = acknowledged(i, own, held, number, store);
+    let node = r.node;
+    let less = r.held;
+    let reply = r.reply;
     let mut t = s;
-    t.nodes[i] = m;
-    t.held = hs;
-    Called {
-        reply: Reply::Done,
-        state: t,
-    }
+    t.nodes[i] = node;
+    t.held = less;
+    Called { reply, state: t }
 }
 
 // Copies the answer at a place of the store into out from a place on.
 fn copy_answer(store: &[u16], place: usize, out: &mut [u16], to: usize)
     requires { ⌜ (place + getD (now store) place 0 ≤ length (now store)) × (1 ≤ getD (now store) place 0) ×
         (to + getD (now store) place 0 ≤ length (now out)) ⌝ }
-    ensures { λ _. ⌜ now (out .exit) ≡ putIn (now (out .entry)) to
+    ensures { λ _. ⌜ now (out .exit) ≡ sets (now (out .entry)) to
         (take (getD (now (store .entry)) place 0) (drop place (now (store .entry)))) ⌝ }
 {
     let end = place + store[place] as usize;
@@ -135,10 +128,10 @@ pub fn acknowledged(
             reply: Reply::Refused(15),
         };
     }
-    let less = take(held, i, store);
+    let rest = take(held, i, store);
     Listed {
         node: own.taken(),
-        held: less,
+        held: rest,
         reply: Reply::Done,
     }
 }

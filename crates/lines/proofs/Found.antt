@@ -1,14 +1,13 @@
 -- What a call's reader returns and leaves in the buffers, from what it found: the call with its parts, or nothing that can be read.
 -- Assumes nothing.
 use Rattle.units.proofs.Common.{sym, _∙_, _≡_, refl, ap, true, Bool, cond, List, [], _∷_, ℕ, _≤_, _-_, _+_, _<_, suc, _%_, ℕ-discrete}
-use Rattle.units.proofs.Common.{arith, length, drop, getD, take, length-drop, getD-drop, drop-drop, onto}
+use Rattle.units.proofs.Common.{arith, length, drop, getD, take, length-drop, getD-drop, drop-drop, sets}
 use native.Mathlib.Nat.{mod-eq-of-lt}
-use Rattle.dialog.specs.Spoken.{Spoken, unreadable, isForm, field}
+use Rattle.dialog.specs.Spoken.{Spoken, unreadable, isForm, field, commandOk, arriveOk, commandSaid, checkSaid, arriveSaid, leaveSaid}
+use Rattle.dialog.specs.Spoken.{collectSaid, acknowledgeSaid, storeSaid}
 use Rattle.dialog.proofs.SpokenLaws.{form-there, IsCommand, of-command, IsCheck, of-check, IsArrive, of-arrive, IsLeave, of-leave}
 use Rattle.dialog.proofs.SpokenLaws.{IsCollect, of-collect, IsAcknowledge, of-acknowledge, IsStore, of-store}
-use Rattle.dialog.specs.Spoken.{commandOk, arriveOk, commandSaid, checkSaid, arriveSaid, leaveSaid, collectSaid, acknowledgeSaid, storeSaid}
 use Rattle.dialog.proofs.FieldLaws.{nowise}
-use Rattle.dialog.proofs.HexLaws.{onto-none}
 use Rattle.lines.specs.declared.Heard.{Heard}
 use Rattle.fields.specs.FieldsAt.{fieldsFrom, FieldAt}
 use Rattle.lines.specs.Heard.{heardOf, wordsIn, idIn, bytesIn}
@@ -72,17 +71,17 @@ unfolding heardOf
 unheard ok t h = rw (nowise ok h)
 
 untouched : (g : Spoken → List ℕ) (ok : Bool) (t : Spoken) (old : List ℕ) → g unreadable ≡ [] → (ok ≡ true → ⊥)
-    → old ≡ onto (g (cond ok t unreadable)) old
-untouched g ok t old e h = rw (nowise ok h, e, onto-none)
+    → old ≡ sets old 0 (g (cond ok t unreadable))
+untouched g ok t old e h = rw (nowise ok h, e)
 
 module _ (fs : List (List ℕ)) where
   pub no-command : (old : List ℕ) → (IsCommand fs → ⊥)
-      → (Heard.Unreadable ≡ heardOf (commandSaid fs)) × (old ≡ onto (wordsIn (commandSaid fs)) old)
+      → (Heard.Unreadable ≡ heardOf (commandSaid fs)) × (old ≡ sets old 0 (wordsIn (commandSaid fs)))
   unfolding wordsIn
   no-command old h = let n : commandOk fs ≡ true → ⊥ = λ e. h (of-command fs e) in (unheard _ _ n, untouched wordsIn _ _ old refl n)
 
   pub no-arrive : (id bytes : List ℕ) → (IsArrive fs → ⊥) → (Heard.Unreadable ≡ heardOf (arriveSaid fs))
-      × ((id ≡ onto (idIn (arriveSaid fs)) id) × (bytes ≡ onto (bytesIn (arriveSaid fs)) bytes))
+      × ((id ≡ sets id 0 (idIn (arriveSaid fs))) × (bytes ≡ sets bytes 0 (bytesIn (arriveSaid fs))))
   unfolding idIn bytesIn
   no-arrive id bytes h =
       let n : arriveOk fs ≡ true → ⊥ = λ e. h (of-arrive fs e) in

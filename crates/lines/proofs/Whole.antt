@@ -1,11 +1,9 @@
 -- A whole line: which call it is tried as, and what a reading returns and leaves in the three buffers.
 -- Assumes nothing.
-use Rattle.units.proofs.Common.{sym, _∙_, _≡_, refl, true, false, Bool, cond, List, [], ℕ, _≤_, _-_, _+_, arith, length, getD, take, onto}
-use Rattle.dialog.specs.Spoken.{Spoken, unreadable, callBy, spoken}
-use Rattle.dialog.specs.Spoken.{commandOk, checkOk, arriveOk, leaveOk, collectOk, acknowledgeOk, storeOk}
-use Rattle.dialog.specs.Spoken.{commandSaid, checkSaid, arriveSaid, leaveSaid, collectSaid, acknowledgeSaid, storeSaid}
+use Rattle.units.proofs.Common.{sym, _∙_, _≡_, refl, true, false, Bool, cond, List, [], ℕ, _≤_, _-_, _+_, arith, length, getD, take, sets}
+use Rattle.dialog.specs.Spoken.{Spoken, unreadable, callBy, spoken, commandOk, checkOk, arriveOk, leaveOk, collectOk, acknowledgeOk}
+use Rattle.dialog.specs.Spoken.{storeOk, commandSaid, checkSaid, arriveSaid, leaveSaid, collectSaid, acknowledgeSaid, storeSaid}
 use Rattle.dialog.proofs.SpokenLaws.{tried}
-use Rattle.dialog.proofs.HexLaws.{onto-none}
 use Rattle.lines.specs.declared.Heard.{Heard}
 use Rattle.fields.specs.declared.field.Verb.{Verb}
 use Rattle.fields.specs.declared.field.Verb.the-variants.{Command, Check, Arrive, Leave, Collect, Acknowledge, Store, None}
@@ -42,12 +40,12 @@ line-said {line} {r} {u} {v} f eu ev h d e =
 
 -- ---- what is returned, and the buffers before and after
 abbrev pub Read : Spoken → Heard → List ℕ → List ℕ → List ℕ → List ℕ → List ℕ → List ℕ → Type 0
-Read s r w w′ i i′ b b′ = (r ≡ heardOf s) × ((w′ ≡ onto (wordsIn s) w) × ((i′ ≡ onto (idIn s) i) × (b′ ≡ onto (bytesIn s) b)))
+Read s r w w′ i i′ b b′ = (r ≡ heardOf s) × ((w′ ≡ sets w 0 (wordsIn s)) × ((i′ ≡ sets i 0 (idIn s)) × (b′ ≡ sets b 0 (bytesIn s))))
 
 -- a buffer that a call says nothing for
-still : (g : Spoken → List ℕ) (ok : Bool) (t : Spoken) (l : List ℕ) → g t ≡ [] → g unreadable ≡ [] → l ≡ onto (g (cond ok t unreadable)) l
-still g true t l e u = rw (e, onto-none)
-still g false t l e u = rw (u, onto-none)
+still : (g : Spoken → List ℕ) (ok : Bool) (t : Spoken) (l : List ℕ) → g t ≡ [] → g unreadable ≡ [] → l ≡ sets l 0 (g (cond ok t unreadable))
+still g true t l e u = rw e
+still g false t l e u = rw u
 
 module _ (w i b : List ℕ) (r : Heard) {s : Spoken} where
   pub quiet-read : (ok : Bool) (t : Spoken) → wordsIn t ≡ [] → idIn t ≡ [] → bytesIn t ≡ [] → s ≡ cond ok t unreadable
@@ -57,13 +55,13 @@ module _ (w i b : List ℕ) (r : Heard) {s : Spoken} where
       rw e (h, (still wordsIn ok t w p refl, (still idIn ok t i q refl, still bytesIn ok t b z refl)))
 
   module _ (fs : List (List ℕ)) where
-    pub command-read : (w′ : List ℕ) → s ≡ commandSaid fs → (r ≡ heardOf (commandSaid fs)) × (w′ ≡ onto (wordsIn (commandSaid fs)) w)
+    pub command-read : (w′ : List ℕ) → s ≡ commandSaid fs → (r ≡ heardOf (commandSaid fs)) × (w′ ≡ sets w 0 (wordsIn (commandSaid fs)))
         → Read s r w w′ i i b b
     unfolding idIn bytesIn
     command-read w′ e h = rw e (h .0, (h .1, (still idIn (commandOk fs) _ i refl refl, still bytesIn (commandOk fs) _ b refl refl)))
 
-    pub arrive-read : (i′ b′ : List ℕ) → s ≡ arriveSaid fs → (r ≡ heardOf (arriveSaid fs)) × ((i′ ≡ onto (idIn (arriveSaid fs)) i)
-        × (b′ ≡ onto (bytesIn (arriveSaid fs)) b)) → Read s r w w i i′ b b′
+    pub arrive-read : (i′ b′ : List ℕ) → s ≡ arriveSaid fs → (r ≡ heardOf (arriveSaid fs)) × ((i′ ≡ sets i 0 (idIn (arriveSaid fs)))
+        × (b′ ≡ sets b 0 (bytesIn (arriveSaid fs)))) → Read s r w w i i′ b b′
     unfolding wordsIn
     arrive-read i′ b′ e h = rw e (h .0, (still wordsIn (arriveOk fs) _ w refl refl, h .1))
 

@@ -15,14 +15,14 @@ use fields::number::read_stamp;
 use units::Bytes;
 use units::Words;
 ghost use mathlib.Core.Path.{_≡_};
-ghost use Rattle.units.specs.Packing.{onto};
+ghost use lib.Seq.{sets};
 ghost use Rattle.dialog.specs.Spoken.{commandSaid, checkSaid, arriveSaid, leaveSaid, collectSaid, acknowledgeSaid, storeSaid};
 ghost use Rattle.fields.specs.FieldsAt.{fieldsFrom};
 ghost use Rattle.lines.specs.Heard.{heardOf, wordsIn, idIn, bytesIn};
 
 pub fn read_command(line: &[u8], at: usize, words: &mut [u16]) -> Heard
     ensures { λ r. ⌜ r ≡ heardOf (commandSaid (fieldsFrom (now (line .entry)) at)) ⌝ }
-    ensures { λ _. ⌜ now (words .exit) ≡ onto (wordsIn (commandSaid (fieldsFrom (now (line .entry)) at))) (now (words .entry)) ⌝ }
+    ensures { λ _. ⌜ now (words .exit) ≡ sets (now (words .entry)) 0 (wordsIn (commandSaid (fieldsFrom (now (line .entry)) at))) ⌝ }
 {
     let t = read_stamp(line, at);
     if !t.ok || line.len() < t.next {
@@ -72,8 +72,8 @@ pub fn read_check(line: &[u8], at: usize) -> Heard
 
 pub fn read_arrive(line: &[u8], at: usize, id: &mut [u8], bytes: &mut [u8]) -> Heard
     ensures { λ r. ⌜ r ≡ heardOf (arriveSaid (fieldsFrom (now (line .entry)) at)) ⌝ }
-    ensures { λ _. ⌜ now (id .exit) ≡ onto (idIn (arriveSaid (fieldsFrom (now (line .entry)) at))) (now (id .entry)) ⌝ }
-    ensures { λ _. ⌜ now (bytes .exit) ≡ onto (bytesIn (arriveSaid (fieldsFrom (now (line .entry)) at))) (now (bytes .entry)) ⌝ }
+    ensures { λ _. ⌜ now (id .exit) ≡ sets (now (id .entry)) 0 (idIn (arriveSaid (fieldsFrom (now (line .entry)) at))) ⌝ }
+    ensures { λ _. ⌜ now (bytes .exit) ≡ sets (now (bytes .entry)) 0 (bytesIn (arriveSaid (fieldsFrom (now (line .entry)) at))) ⌝ }
 {
     let n = read_node(line, at);
     let from = n.next;

@@ -16,7 +16,7 @@ use units::Form;
 use units::Words;
 use units::stamp::Stamp;
 ghost use mathlib.Core.Path.{_≡_};
-ghost use Rattle.units.specs.Packing.{onto};
+ghost use lib.Seq.{sets};
 ghost use Rattle.dialog.specs.Spoken.{spoken};
 ghost use Rattle.lines.specs.Heard.{heardOf, wordsIn, idIn, bytesIn};
 
@@ -59,9 +59,9 @@ pub const LONGEST_LINE: usize = 4400;
 // Puts the words, the ID and the bytes to the front of the buffers, as much as they have room for; the rest of them stays.
 pub fn read_line(line: &[u8], words: &mut [u16], id: &mut [u8], bytes: &mut [u8]) -> Heard
     ensures { λ r. ⌜ r ≡ heardOf (spoken (now (line .entry))) ⌝ }
-    ensures { λ _. ⌜ now (words .exit) ≡ onto (wordsIn (spoken (now (line .entry)))) (now (words .entry)) ⌝ }
-    ensures { λ _. ⌜ now (id .exit) ≡ onto (idIn (spoken (now (line .entry)))) (now (id .entry)) ⌝ }
-    ensures { λ _. ⌜ now (bytes .exit) ≡ onto (bytesIn (spoken (now (line .entry)))) (now (bytes .entry)) ⌝ }
+    ensures { λ _. ⌜ now (words .exit) ≡ sets (now (words .entry)) 0 (wordsIn (spoken (now (line .entry)))) ⌝ }
+    ensures { λ _. ⌜ now (id .exit) ≡ sets (now (id .entry)) 0 (idIn (spoken (now (line .entry)))) ⌝ }
+    ensures { λ _. ⌜ now (bytes .exit) ≡ sets (now (bytes .entry)) 0 (bytesIn (spoken (now (line .entry)))) ⌝ }
 {
     if LONGEST_LINE < line.len() {
         return Heard::Unreadable;

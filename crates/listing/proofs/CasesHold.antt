@@ -6,7 +6,7 @@ use Rattle.meaning.proofs.Opened.{calls}
 use Rattle.text.specs.Text.{hexOf, decimalWithin, decimalOf, wordsLine}
 use Rattle.listing.specs.Records.{countWhole, plaqueWhole, commandWhole}
 use Rattle.listing.specs.Lines.{numberLine, brokenLine, flat}
-use Rattle.listing.specs.Listing.{wordsIn, handoverIn, handedOver, heard, turn, turned, arrived, commandLines, countedLines}
+use Rattle.listing.specs.Listing.{wordsHanded, handoverIn, handedOver, heard, turn, turned, arrived, commandLines, countedLines}
 use Rattle.listing.specs.Listing.{plaqueLines, fileLines, blank, listing}
 use Rattle.listing.specs.Cases.{playedCases, handedCases, refusedCases, brokenCases, aloneCases, nightCases}
 
@@ -16,7 +16,8 @@ unfolding hexOf decimalWithin decimalOf wordsLine countWhole plaqueWhole command
 lines = 0
 
 unfoldable pub night : ℕ
-unfolding calls lines wordsIn handoverIn handedOver heard turn turned arrived commandLines countedLines plaqueLines fileLines blank listing
+unfolding calls lines wordsHanded handoverIn handedOver heard turn turned arrived
+    commandLines countedLines plaqueLines fileLines blank listing
 night = 0
 
 pub night-cases-hold : unheld nightCases ≡ []

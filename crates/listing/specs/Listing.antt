@@ -12,17 +12,17 @@ use Rattle.meaning.specs.Gateway.{Gateway, fresh}
 use Rattle.meaning.specs.Call.{command, arrive, collect, acknowledge, named, done, quiet, handed, Said, refused, answered, queued, step}
 use Rattle.text.specs.Text.{wordsLine}
 use Rattle.listing.specs.Records.{countWhole, countSaid, plaqueWhole, plaqueNode, plaqueId, plaqueBytes, plaqueSize}
-use Rattle.listing.specs.Records.{commandWhole, commandStamp, commandWords, commandSize}
+use Rattle.listing.specs.Records.{commandWhole, commandStamp, commandPacket, commandSize}
 use Rattle.listing.specs.Lines.{commandsLine, refusedLine, brokenLine, flat}
 
 -- ---- one command: "each command's answer is collected in register form and acknowledged"
 -- the words and the handover number that collect handed over
-unfoldable pub wordsIn : Said → List ℕ
-wordsIn (answered (handed ws h)) = ws
-wordsIn (answered done) = []
-wordsIn (answered quiet) = []
-wordsIn (refused k) = []
-wordsIn queued = []
+unfoldable pub wordsHanded : Said → List ℕ
+wordsHanded (answered (handed ws h)) = ws
+wordsHanded (answered done) = []
+wordsHanded (answered quiet) = []
+wordsHanded (refused k) = []
+wordsHanded queued = []
 
 unfoldable pub handoverIn : Said → ℕ
 handoverIn (answered (handed ws h)) = h
@@ -47,7 +47,7 @@ pub record Turn : Type 0 where
 unfoldable pub handedOver : Bench → ℕ → Gateway → Turn
 handedOver b n g =
     let c = step b g (collect Register n 134) in
-    record { line = wordsLine (wordsIn (c .said)); after = (step b (c .next) (acknowledge n (handoverIn (c .said)))) .next }
+    record { line = wordsLine (wordsHanded (c .said)); after = (step b (c .next) (acknowledge n (handoverIn (c .said)))) .next }
 
 -- node n was given the command
 unfoldable pub heard : Bench → ℕ → Gateway → Said → Turn
@@ -61,7 +61,7 @@ turn b g t ws = let c = command t Register ws in let o = step b g c in heard b (
 module _ (b : Bench) where
   -- the command and the plaque at the front of the bytes
   unfoldable pub turned : Gateway → List ℕ → Turn
-  turned g bs = turn b g (commandStamp bs) (commandWords bs)
+  turned g bs = turn b g (commandStamp bs) (commandPacket bs)
 
   unfoldable pub arrived : Gateway → List ℕ → Gateway
   arrived g bs = (step b g (arrive (plaqueNode bs) (plaqueId bs) (plaqueBytes bs))) .next

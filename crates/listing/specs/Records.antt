@@ -50,8 +50,8 @@ commandStamp bs =
 abbrev pub commandLength : List ℕ → ℕ
 commandLength bs = two bs 5
 
-abbrev pub commandWords : List ℕ → List ℕ
-commandWords bs = packed (take (2 * commandLength bs) (drop 5 bs))
+abbrev pub commandPacket : List ℕ → List ℕ
+commandPacket bs = packed (take (2 * commandLength bs) (drop 5 bs))
 
 abbrev pub commandSize : List ℕ → ℕ
 commandSize bs = 5 + 2 * commandLength bs

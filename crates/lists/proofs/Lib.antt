@@ -1,6 +1,6 @@
 -- Laws that belong to no one function.
 pub mod Charges
 pub mod Places
-pub mod Answers
+pub mod WordsRead
 pub mod Walk
 pub mod LineLaws

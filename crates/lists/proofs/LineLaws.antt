@@ -11,7 +11,7 @@ use Rattle.state.specs.declared.node.Node.{Node}
 use Rattle.state.proofs.Lists.{both}
 use Rattle.state.proofs.Read.{same-is, is-same, cuts-laid, past-laid, laid-cuts, nodeFor, nodes-for, store-is}
 use Rattle.lists.specs.Line.{inLine}
-use Rattle.lists.proofs.Answers.{is-false}
+use Rattle.lists.proofs.WordsRead.{is-false}
 
 -- ---- zeros
 zeros-is : (w : List ℕ) → zeros w ≡ true → w ≡ replicate (length w) 0

@@ -8,7 +8,7 @@ use Rattle.state.proofs.Terms.{cuts, past, nodeAt, zeros}
 use Rattle.state.specs.Layout.{behind}
 use Rattle.state.specs.declared.node.Node.{Node}
 use Rattle.lists.specs.Line.{okAnswer, inLine}
-use Rattle.lists.proofs.Answers.{ok-whole, first-at}
+use Rattle.lists.proofs.WordsRead.{ok-whole, first-at}
 
 -- ---- the rest of a walk: k answers of the node at index i are still to come, and so many words of it are passed
 unfoldable pub rest : Bench → ℕ → ℕ → ℕ → List ℕ → ℕ → List Node → List ℕ → Bool

@@ -87,8 +87,8 @@ handoverCases =
     has (node 3 (ask 3)) 6 7 (older 3 ∷ newer 3 ∷ hex "0007 FFFF 0503 0313 0A0B 2401 0700" ∷ [])
     ∷ "and of the gateway's" says has (node 32 (ask 32)) 6 7 (older 32 ∷ newer 32 ∷ hex "0006 AA11 0520 0313 0A0B 2400" ∷ [])
     ∷ "no other list" says every (λ n. eqb (pending n (ask 3 ∷ ask 32 ∷ [])) 0) (1 ∷ 2 ∷ 4 ∷ 16 ∷ [])
-    -- "Collect copies the oldest answer to the front of the lent output and returns its word count and the handover number; no state
-    -- changes."
+    -- "Collect copies the oldest answer to the front of the lent output and returns its word count and the handover number;
+    -- no state changes."
     ∷ "7: collect at 1 to 16 and 32" says every (λ n. ends 14 [] (collect Register n 9)) (1 ∷ 16 ∷ 32 ∷ [])
     ∷ "7: at no other" says every (λ n. ends 7 [] (collect Register n 9)) (0 ∷ 17 ∷ 31 ∷ 33 ∷ [])
     ∷ "collect in register form" says every (λ n. hands (waiting n blank) (collect Register n 6) (older n) 7) some

@@ -4,7 +4,8 @@
 use Prim.Native.Nat.{ℕ}
 use mathlib.Core.Path.{_≡_, refl}
 use mathlib.Core.List.{List, [], _∷_}
-use Rattle.moves.specs.Moved.{putIn, inserted, removed}
+use lib.Seq.{sets}
+use Rattle.moves.specs.Moved.{inserted, removed}
 
 abbrev small : List ℕ
 small = 3 ∷ 7 ∷ 7 ∷ 2 ∷ 8 ∷ 2 ∷ 9 ∷ 0 ∷ 0 ∷ 0 ∷ []
@@ -41,6 +42,5 @@ take-end : removed small 5 7 2 ≡ 3 ∷ 7 ∷ 7 ∷ 2 ∷ 8 ∷ 0 ∷ 0 ∷ 0 �
 unfolding removed
 take-end = refl
 
-copied : putIn small 2 (1 ∷ 1 ∷ []) ≡ 3 ∷ 7 ∷ 1 ∷ 1 ∷ 8 ∷ 2 ∷ 9 ∷ 0 ∷ 0 ∷ 0 ∷ []
-unfolding putIn
+copied : sets small 2 (1 ∷ 1 ∷ []) ≡ 3 ∷ 7 ∷ 1 ∷ 1 ∷ 8 ∷ 2 ∷ 9 ∷ 0 ∷ 0 ∷ 0 ∷ []
 copied = refl

@@ -4,10 +4,6 @@ use Prim.Native.Nat.{ℕ, _+_, _-_}
 use mathlib.Core.List.{List, _++_}
 use lib.ListN.{length, take, drop, replicate}
 
--- dst with all of src copied in from a place on
-unfoldable pub putIn : List ℕ → ℕ → List ℕ → List ℕ
-putIn dst to src = take to dst ++ (src ++ drop (to + length src) dst)
-
 -- ws with new words put in at a place: those from there to end move up, over what lay behind them
 unfoldable pub inserted : List ℕ → ℕ → ℕ → List ℕ → List ℕ
 inserted ws at end new = take at ws ++ (new ++ (take (end - at) (drop at ws) ++ drop (end + length new) ws))

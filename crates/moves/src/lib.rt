@@ -2,12 +2,13 @@
 ghost use mathlib.Core.Path.{_≡_};
 ghost use Prim.Native.Nat.{_+_, _-_, _≤_};
 ghost use lib.ListN.{length, take, drop, replicate};
-ghost use Rattle.moves.specs.Moved.{putIn, inserted, removed};
+ghost use lib.Seq.{sets};
+ghost use Rattle.moves.specs.Moved.{inserted, removed};
 
 // Copies all of src into dst from a place on.
 pub fn copy_in(src: &[u16], dst: &mut [u16], to: usize)
     requires { ⌜ to + length (now src) ≤ length (now dst) ⌝ }
-    ensures { λ _. ⌜ now (dst .exit) ≡ putIn (now (dst .entry)) to (now (src .entry)) ⌝ }
+    ensures { λ _. ⌜ now (dst .exit) ≡ sets (now (dst .entry)) to (now (src .entry)) ⌝ }
 {
     let mut j = 0;
     while j < src.len() {
@@ -38,7 +39,7 @@ pub fn remove(words: &mut [u16], at: usize, end: usize, count: usize)
 // Moves the words from a place to another up by so many. The last goes first, so that none is written over before it has moved.
 fn move_up(words: &mut [u16], from: usize, end: usize, by: usize)
     requires { ⌜ (from ≤ end) × (end + by ≤ length (now words)) ⌝ }
-    ensures { λ _. ⌜ now (words .exit) ≡ putIn (now (words .entry)) (from + by) (take (end - from) (drop from (now (words .entry)))) ⌝ }
+    ensures { λ _. ⌜ now (words .exit) ≡ sets (now (words .entry)) (from + by) (take (end - from) (drop from (now (words .entry)))) ⌝ }
 {
     let mut j = end;
     while from < j {
@@ -50,7 +51,7 @@ fn move_up(words: &mut [u16], from: usize, end: usize, by: usize)
 // Moves them down by so many, the first one first.
 fn move_down(words: &mut [u16], from: usize, end: usize, by: usize)
     requires { ⌜ (by ≤ from) × (from ≤ end) × (end ≤ length (now words)) ⌝ }
-    ensures { λ _. ⌜ now (words .exit) ≡ putIn (now (words .entry)) (from - by) (take (end - from) (drop from (now (words .entry)))) ⌝ }
+    ensures { λ _. ⌜ now (words .exit) ≡ sets (now (words .entry)) (from - by) (take (end - from) (drop from (now (words .entry)))) ⌝ }
 {
     let mut j = from;
     while j < end {
@@ -62,7 +63,7 @@ fn move_down(words: &mut [u16], from: usize, end: usize, by: usize)
 // Makes the words from a place to another 0.
 fn wipe_part(words: &mut [u16], from: usize, end: usize)
     requires { ⌜ (from ≤ end) × (end ≤ length (now words)) ⌝ }
-    ensures { λ _. ⌜ now (words .exit) ≡ putIn (now (words .entry)) from (replicate (end - from) 0) ⌝ }
+    ensures { λ _. ⌜ now (words .exit) ≡ sets (now (words .entry)) from (replicate (end - from) 0) ⌝ }
 {
     let mut j = from;
     while j < end {

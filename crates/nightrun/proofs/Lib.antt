@@ -1,4 +1,4 @@
+-- Laws that belong to no one function.
 pub mod Records
-pub mod Walking
 pub mod Playing
 pub mod Whole

@@ -10,7 +10,6 @@ use Rattle.meaning.proofs.Terms.{Bench, full, hub, isReader, isNode, Gateway, c
 use Rattle.meaning.specs.declared.packet.Command.{Command}
 use Rattle.demands.proofs.Numbers.{who, judged-low, judged-given}
 use Rattle.state.proofs.Terms.{Machine, machine, meaning, unfit}
-use Rattle.state.specs.declared.State.{State}
 use Rattle.state.proofs.Read.{blank}
 use Rattle.promise.proofs.Accepted.{reader-suited}
 use Rattle.answers.proofs.Indices.{blankReader}
@@ -23,23 +22,19 @@ use Rattle.listing.specs.Lines.{refusedLine, brokenLine, flat}
 use Rattle.listing.specs.Listing.{Turn, heard, turn, turned, commandLines}
 use Rattle.listingout.proofs.Rooms.{refused-short, length-broken}
 use Rattle.asking.specs.Ask as A
-use Rattle.asking.specs.Ask.{Accepts, SeatPlays, HousePlays}
+use Rattle.asking.specs.Ask.{longestLine, Accepts, SeatPlays, HousePlays}
 use Rattle.asking.specs.declared.ReaderTurn.{ReaderTurn}
 use Rattle.asking.specs.declared.HubTurn.{HubTurn}
-use Rattle.nightrun.specs.Walk.{CommandHere, Hears, toCome, Ready, Plays}
-use Rattle.nightrun.specs.declared.walk.Walk.{Walk}
-use Rattle.nightrun.specs.declared.walk.Heard.{Heard}
+use Rattle.hearing.specs.Here.{CommandHere, Hears}
+use Rattle.hearing.specs.declared.HeardCommand.{HeardCommand}
+use Rattle.hearing.proofs.Here.{command-there}
+use Rattle.hearing.specs.Opened.{toCome}
+use Rattle.hearing.specs.declared.opening.Walk.{Walk}
+use Rattle.nightrun.specs.Walk.{Ready, Plays}
 use Rattle.nightrun.proofs.Records.{flat-more, command-on, command-off, commands-end, commands-left}
-use Rattle.nightrun.proofs.Walking.{command-there}
-
--- ---- a turn played, by the values that the code then has
-pub plays-as : {o : Turn} {s s₁ : State} {store store₁ memory memory₁ old new new₁ : List ℕ} {to end end₁ : ℕ} → store ≡ store₁
-    → memory ≡ memory₁ → new ≡ new₁ → s ≡ s₁ → end ≡ end₁ → A.Plays full o (machine s₁ store₁ memory₁) old to new₁ end₁
-    → A.Plays full o (machine s store memory) old to new end
-plays-as e f g h i p = rw (e, f, g, h, i) p
 
 -- ---- a command that was heard
-module _ {file : List ℕ} {at : ℕ} {n : Words} {words : List ℕ} {r : Heard} (h : Hears file at n words r) where
+module _ {file : List ℕ} {at : ℕ} {n : Words} {words : List ℕ} {r : HeardCommand} (h : Hears file at n words r) where
   abbrev ws : List ℕ
   ws = take (n .0) words
 
@@ -149,12 +144,12 @@ module _ {b : Bench} {file : List ℕ} {w : Walk} {g : Gateway} {out₀ : List �
 
   module _ (k : Ready (length file) w (length out₀) to₀) where
     -- there is room for a command's line, and for `broken`
-    pub along-room : to + 670 ≤ length out
+    pub along-room : to + longestLine ≤ length out
     along-room = omega (arith, a .room, a .inside, a .same, k .short, k .long)
 
-    -- the end: the last line, of at most 670 bytes, or none
+    -- the end: the last line, or none
     along-end : (line : List ℕ) {new : List ℕ} {r : ℕ} → flat (commandLines b left (meaning b m) (drop at file)) ≡ line
-        → Put out to line new r → length line ≤ 670 → Plays b file w g out₀ to₀ new r
+        → Put out to line new r → length line ≤ longestLine → Plays b file w g out₀ to₀ new r
     along-end line e p l = record {
       text = record { next = omega (arith, p .next, ap length e, a .place); wrote = p .wrote ∙ ap (sets out to) (sym e) ∙ a .rest };
       fits = omega (arith, p .next, l, along-room, a .same);

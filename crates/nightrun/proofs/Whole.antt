@@ -8,40 +8,43 @@ use Rattle.state.proofs.Terms.{Machine, meaning}
 use Rattle.text.specs.Text.{Put}
 use Rattle.text.proofs.Writing.{put-as, put-then, put-length}
 use Rattle.listing.specs.Lines.{commandsLine, brokenLine, flat}
-use Rattle.listing.specs.Listing.{fileLines, blank, listing}
+use Rattle.listing.specs.Listing.{fileLines, blank, listing, longestListing}
 use Rattle.listingout.proofs.Rooms.{commands-room}
-use Rattle.nightrun.specs.Walk.{toCome, Opens, Ready, Plays, Lists}
+use Rattle.hearing.specs.Opened.{toCome, Opens}
+use Rattle.hearing.specs.declared.opening.Opened.{Opened}
+use Rattle.hearing.proofs.Standing.{opened-broken, opened-fine}
+use Rattle.nightrun.specs.Walk.{Ready, Plays, Lists}
 use Rattle.nightrun.specs.declared.Listed.{Listed}
-use Rattle.nightrun.specs.declared.walk.Opened.{Opened}
-use Rattle.nightrun.proofs.Walking.{opened-broken, opened-fine}
 
 -- ---- written, or not
-pub listed : (file old new : List ℕ) (r : ℕ) → 2600000 ≤ length old → Put old 0 (listing file) new r → r ≤ length old
+pub listed : (file old new : List ℕ) (r : ℕ) → longestListing ≤ length old → Put old 0 (listing file) new r → r ≤ length old
     → Lists file old new (Listed.Written r)
 listed file old new r h p room = record {
-  says = ap Listed.Written (p .next ∙ zero-add (length (listing file))) ∙ sym (yes-cond Listed.TooShort (le-leb 2600000 (length old) h));
-  writes = p .wrote ∙ sym (yes-cond old (le-leb 2600000 (length old) h));
+  says =
+      ap Listed.Written (p .next ∙ zero-add (length (listing file)))
+      ∙ sym (yes-cond Listed.TooShort (le-leb longestListing (length old) h));
+  writes = p .wrote ∙ sym (yes-cond old (le-leb longestListing (length old) h));
   fits = λ q. omega (arith, p .next, room);
 }
 
-pub not-listed : (file old : List ℕ) → length old < 2600000 → Lists file old old Listed.TooShort
+pub not-listed : (file old : List ℕ) → length old < longestListing → Lists file old old Listed.TooShort
 not-listed file old h = record {
-  says = sym (no-cond (Listed.Written (length (listing file))) (lt-leb 2600000 (length old) h));
-  writes = sym (no-cond (sets old 0 (listing file)) (lt-leb 2600000 (length old) h));
-  fits = λ q. absurd (true≢false (sym q ∙ lt-leb 2600000 (length old) h));
+  says = sym (no-cond (Listed.Written (length (listing file))) (lt-leb longestListing (length old) h));
+  writes = sym (no-cond (sets old 0 (listing file)) (lt-leb longestListing (length old) h));
+  fits = λ q. absurd (true≢false (sym q ∙ lt-leb longestListing (length old) h));
 }
 
 -- what is written stands inside the output
 pub listed-inside : {file old new : List ℕ} {r : Listed} {n : ℕ} → r ≡ Listed.Written n → Lists file old new r → n ≤ length new
-listed-inside {file} {old} {new} {r} {n} w l = go (leb 2600000 (length old)) refl
+listed-inside {file} {old} {new} {r} {n} w l = by-room (leb longestListing (length old)) refl
   where
-    go : (t : Bool) → leb 2600000 (length old) ≡ t → n ≤ length new
-    go true e =
+    by-room : (t : Bool) → leb longestListing (length old) ≡ t → n ≤ length new
+    by-room true e =
         let q = l .says ∙ yes-cond Listed.TooShort e in
         let z : n ≡ length (listing file) = cc in
         let s : length new ≡ length old = ap length (l .writes ∙ yes-cond old e) ∙ simp length-sets in
         omega (arith, l .fits e)
-    go false e =
+    by-room false e =
         let q = l .says ∙ no-cond (Listed.Written (length (listing file))) e in
         let z : _≡_ {A = ℕ} 0 1 = cc in
         omega arith
@@ -58,7 +61,7 @@ module _ {file : List ℕ} {g : Gateway} {o : Opened} {m : Machine} (from : g �
 
   -- the line of the command count, then the commands
   module _ (fine : o .fine ≡ true) {old out : List ℕ} {to : ℕ} (head : Put old 0 (commandsLine (o .walk .left)) out to)
-      (long : 2600000 ≤ length old) where
+      (long : longestListing ≤ length old) where
     listing-fine : commandsLine (o .walk .left) ++ flat (toCome full file (o .walk) (meaning full m)) ≡ listing file
     unfolding flat
     listing-fine = listing-is (commandsLine (o .walk .left) ∷ toCome full file (o .walk) (meaning full m)) (opened-fine opens fine)

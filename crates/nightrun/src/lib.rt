@@ -1,8 +1,8 @@
 // The night run: a run file played on a fresh gateway, and its whole listing written.
 pub mod walk;
 
-use crate::walk::open;
 use crate::walk::play;
+use hearing::opening::open;
 use listingout::put_broken;
 use listingout::put_commands;
 use units::Bytes;

@@ -23,7 +23,7 @@ use Rattle.promise.specs.Obeyed.{Does}
 use Rattle.promise.proofs.Tables.{hub-apart}
 use Rattle.promise.proofs.Steps.{step-reader, step-hub}
 use Rattle.promise.proofs.Accepted.{rowFor, row-regular, Accepted, accepted, used, reader-suited, reads}
-use Rattle.desk.specs.Ruled.{Told, ToldOf}
+use Rattle.desk.specs.Ruled.{Limited, LimitedOf}
 use Rattle.obey.specs.Taken.{Orderly, Heeded}
 
 module _ (b : Bench) (t : Stamp) (f : Form) (ws : List ℕ) (e : judged b (command t f ws) ≡ 0) where
@@ -68,8 +68,8 @@ module _ (b : Bench) (t : Stamp) (f : Form) (ws : List ℕ) (e : judged b (comma
   ready-for (K.Gateway k) q = tt
   ready-for K.Unknown q = tt
 
-  told-for : (k : Kind) → kindIn b f ws ≡ k → ToldOf b k m (commandData f ws)
-  unfolding ToldOf Told carried carries
+  told-for : (k : Kind) → kindIn b f ws ≡ k → LimitedOf b k m (commandData f ws)
+  unfolding LimitedOf Limited carried carries
   told-for (K.Plaque k) q = tt
   told-for K.Continuous q = tt
   told-for K.ResetReader q = tt
@@ -84,7 +84,7 @@ module _ (b : Bench) (t : Stamp) (f : Form) (ws : List ℕ) (e : judged b (comma
   pub ready : Ready b (kindIn b f ws) m (commandData f ws)
   ready = ready-for (kindIn b f ws) refl
 
-  pub told : ToldOf b (kindIn b f ws) m (commandData f ws)
+  pub told : LimitedOf b (kindIn b f ws) m (commandData f ws)
   told = told-for (kindIn b f ws) refl
 
   pub for-node : isNode b (m .node) ≡ true

@@ -1,12 +1,12 @@
 -- The parts of a state taken out for a call and put back: what holds of every machine that they are parts of holds of this one.
 -- Assumes nothing.
-use Rattle.units.proofs.Common.{sym, _≡_, refl, subst, true, List, ℕ, _≤_, _-_, _<_, arith, getD, set, isStamp}
+use Rattle.units.proofs.Common.{_≡_, refl, true, List, ℕ, _≤_, _-_, _<_, arith, getD, set, isStamp}
 use Rattle.units.specs.declared.stamp.Stamp.{Stamp}
 use Rattle.meaning.proofs.Terms.{full, isReader, Gateway, Outcome, Said, check, step}
 use Rattle.state.proofs.Terms.{Machine, machine, meaning, unfit}
 use Rattle.state.specs.declared.State.{State}
 use Rattle.state.proofs.Read.{blank}
-use Rattle.promise.specs.Obeyed.{spoken, Does}
+use Rattle.promise.specs.Obeyed.{saidOf, Does}
 use Rattle.promise.specs.declared.Called.{Called}
 use Rattle.promise.proofs.Commands.{checked-by}
 use Rattle.promise.proofs.Tables.{reader-range}
@@ -22,10 +22,7 @@ module _ (m : Machine) (fit : unfit full m ≡ 0) where
   -- ---- a reader's, at its index
   module _ (n i : ℕ) (is : isReader full n ≡ true) (at : i ≡ n - 1) where
     seat : Seat n (getD (m .state .nodes) i blank) (getD (m .state .readers) i blankReader) (m .state .held) (m .state)
-    seat =
-        subst (λ (j : ℕ). Seat n (getD (m .state .nodes) j blank) (getD (m .state .readers) j blankReader) (m .state .held) (m .state))
-        (sym at)
-        (seat-of m fit n is)
+    seat = rw at (seat-of m fit n is)
 
     pub seatable : Seatable full n (getD (m .state .nodes) i blank) (getD (m .state .readers) i blankReader) (m .state .held) (m .store)
         (m .memory)
@@ -34,7 +31,7 @@ module _ (m : Machine) (fit : unfit full m ≡ 0) where
     pub first : 1 ≤ n
     first = reader-range full n is .0
 
-    pub inside : i < 16
+    pub inside : i < full .readers
     inside = omega (arith, at, reader-range full n is)
 
     -- the state with them at that index
@@ -50,17 +47,8 @@ module _ (m : Machine) (fit : unfit full m ≡ 0) where
         → Seats full o n (getD (m .state .nodes) i blank) (getD (m .state .readers) i blankReader) (m .state .held) (m .store) (m .memory) r
         store′ memory′
         → q ≡ record { state = back r; reply = r .reply }
-        → Does full (o (meaning full m)) m (spoken (q .reply)) (machine (q .state) store′ memory′)
-    seats-here o r {store′} {memory′} {q} d e =
-        subst (λ (q : Called). Does full (o (meaning full m)) m (spoken (q .reply)) (machine (q .state) store′ memory′)) (sym e)
-        (subst (λ (j : ℕ). Does full (o (meaning full m)) m (spoken (r .reply))
-        (machine (record {
-          name = m .state .name;
-          readers = set (m .state .readers) j (r .reader);
-          nodes = set (m .state .nodes) j (r .node);
-          held = r .held;
-        }) store′ memory′))
-        (sym at) (d (m .state) seat fit))
+        → Does full (o (meaning full m)) m (saidOf (q .reply)) (machine (q .state) store′ memory′)
+    seats-here o r d e = rw (e, at) (d (m .state) seat fit)
 
     -- a field check of it is the meaning's step
     pub checks-here : (t : Stamp) (clock : ℕ) → isStamp t ≡ true → {said : Said} {m′ : Machine}
@@ -77,5 +65,5 @@ module _ (m : Machine) (fit : unfit full m ≡ 0) where
 
   pub houses-here : (o : Gateway → Outcome) (r : Housed) {store′ : List ℕ}
       → Houses full o (m .state .nodes) (m .state .held) (m .state .name) (m .store) r store′
-      → Does full (o (meaning full m)) m (spoken (r .reply)) (machine (housed (m .state) r) store′ (m .memory))
+      → Does full (o (meaning full m)) m (saidOf (r .reply)) (machine (housed (m .state) r) store′ (m .memory))
   houses-here o r d = d (m .state) (m .memory) house fit

@@ -12,7 +12,7 @@ use Rattle.meaning.specs.declared.packet.Command.{Command}
 use Rattle.state.specs.Machine.{Machine}
 use Rattle.state.specs.Consistent.{unfit}
 use Rattle.answers.specs.Ordered.{Ready}
-use Rattle.desk.specs.Ruled.{ToldOf}
+use Rattle.desk.specs.Ruled.{LimitedOf}
 
 -- ---- what an accepted command brings, on a consistent machine
 -- for a reader
@@ -26,4 +26,4 @@ pub record Orderly (b : Bench) (t : Stamp) (k : Kind) (m : Command) (words : Lis
 pub record Heeded (b : Bench) (t : Stamp) (k : Kind) (m : Command) (words : List ℕ) (x : Machine) : Type 0 where
   pub fit : unfit b x ≡ 0
   pub stamp : isStamp t ≡ true
-  pub told : ToldOf b k m words
+  pub told : LimitedOf b k m words

@@ -6,7 +6,8 @@ use Rattle.units.proofs.Common.{take-take, eq-eqb, le-leb, eqb-true, lt-leb, lt
 use Rattle.units.specs.Packing.{byteAt}
 use Rattle.units.specs.declared.Words.{Words}
 use Rattle.units.specs.declared.stamp.Stamp.{Stamp}
-use Rattle.meaning.proofs.Terms.{full, responseBody, wellFormed, amountWrong, rowOf, carried, plaque, Local, answer, tagNotFound, obeyed}
+use Rattle.meaning.proofs.Terms.{full, responseBody, wellFormed, amountWrong, rowOf, carried, plaque, empty, Field, Local, answer}
+use Rattle.meaning.proofs.Terms.{tagNotFound, obeyed, tagged, ranged}
 use Rattle.meaning.specs.Gateway as M
 use Rattle.meaning.specs.Call.{started}
 use Rattle.meaning.specs.declared.table.OnPlaque.{OnPlaque}
@@ -21,7 +22,6 @@ use Rattle.state.specs.declared.reader.Reader.{Reader}
 use Rattle.state.proofs.Lists.{both}
 use Rattle.promise.proofs.Tables.{reader-node}
 use Rattle.promise.proofs.Readers.{withReading, reader-parts, reader-whole, plaque-bytes, id-long}
-use Rattle.promise.proofs.Locals as L
 use Rattle.answers.specs.Ordered.{loadOf, Ready}
 use Rattle.answers.specs.Say.{good, Sayable, Says}
 use Rattle.answers.specs.Decided.{bare, told, Formed}
@@ -121,12 +121,12 @@ asks c = record { start = c .start; size = record { 0 = c .size }; delay = c .wo
 -- .. is within the limits
 limits : (c : Command) (ws : List ℕ) → Ready full K.Continuous c ws → readingOk full (asks c) false ≡ true
 unfolding Ready readingOk
-limits c ws h = go (eqb (c .size) 0) refl
+limits c ws h = by-size (eqb (c .size) 0) refl
   where
-    go : (z : Bool) → eqb (c .size) 0 ≡ z → cond z (eqb (c .start) 0 && (eqb (c .word4 % 256) 0 && not false))
-        (leb (c .size) 255 && (leb (c .start + c .size) 1024 && leb (c .word4 % 256) 60)) ≡ true
-    go true e = let k = h .3 (eqb-true _ _ e) in both (eq-eqb _ _ (k .0)) (both (eq-eqb (c .word4 % 256) 0 (omega (arith, k .1))) refl)
-    go false e = both (le-leb _ _ (h .0)) (both (le-leb _ _ (h .2)) (le-leb (c .word4 % 256) 60 (omega (arith, h .1))))
+    by-size : (z : Bool) → eqb (c .size) 0 ≡ z → cond z (eqb (c .start) 0 && (eqb (c .word4 % 256) 0 && not false))
+        (leb (c .size) 255 && (leb (c .start + c .size) (full .region) && leb (c .word4 % 256) 60)) ≡ true
+    by-size true e = let k = h .3 (eqb-true _ _ e) in both (eq-eqb _ _ (k .0)) (both (eq-eqb (c .word4 % 256) 0 (omega (arith, k .1))) refl)
+    by-size false e = both (le-leb _ _ (h .0)) (both (le-leb _ _ (h .2)) (le-leb (c .word4 % 256) 60 (omega (arith, h .1))))
 
 -- ---- an accepted command
 pub servable-as : {t : Stamp} {k k′ : Kind} {m : Command} {ws : List ℕ} {x : Reader} {region room : ℕ} → k ≡ k′
@@ -146,6 +146,16 @@ pub read-sayable : {t : Stamp} {m : Command} {ws : List ℕ} {x : Reader} {regio
 unfolding Ready
 read-sayable {m = m} a g l = part-sayable (a .readable) g (m .start) (m .size) (a .ready) l
 
+-- a command on the plaque that lies in the field
+abbrev pub onPlaque : ℕ → Stamp → Command → List ℕ → Reader → List ℕ → OnPlaque → Field → Local M.Reader
+onPlaque count t m ws x region k f = tagged (m .node) (bare count) t k m (loadOf full m ws) (readerOf x region) f
+
+on-plaque : (count : ℕ) (t : Stamp) (m : Command) (ws : List ℕ) (x : Reader) (region : List ℕ) (k : OnPlaque) → x .plaque .present ≡ true
+    → obeyed (m .node) (bare count) t (K.Plaque k) m (loadOf full m ws) (readerOf x region)
+    ≡ onPlaque count t m ws x region k (plaque (x .plaque .id) (x .plaque .length .0))
+unfolding obeyed
+on-plaque count t m ws x region k p = ap (onPlaque count t m ws x region k) (field x region p)
+
 module _ (count : ℕ) {t : Stamp} {m : Command} {ws : List ℕ} {x : Reader} {region : List ℕ} {room : ℕ} {d : Decided} {out : List ℕ} where
   pub as-kind : {k k′ : Kind} → Servable full t k m ws x (length region) room → k ≡ k′ → Obeys full count t k′ m ws x region d out
       → Obeys full count t k m ws x region d out
@@ -154,91 +164,79 @@ module _ (count : ℕ) {t : Stamp} {m : Command} {ws : List ℕ} {x : Reader} {r
   pub none-due : {k : OnPlaque} → Servable full t (K.Plaque k) m ws x (length region) room → x .plaque .present ≡ false → {w : Words}
       → Says full (record { error = true; echo = 0xFF; count = count; node = m .node; stamp = t }) (7 ∷ []) (w .0) out
       → d ≡ reply x C.Kept w → Obeys full count t (K.Plaque k) m ws x region d out
-  unfolding readerOf fieldOf tagNotFound altered Suits
+  unfolding readerOf fieldOf tagNotFound altered Suits obeyed tagged
   none-due {k} a p s e =
       serves-due (a .readable .inOrder) e refl s tt
-      (L.tag-none (m .node) (bare count) t m (loadOf full m ws) (readerOf x region) k (no-cond _ p))
+      (ap (onPlaque count t m ws x region k) (no-cond _ p) ∙ each k)
+    where
+      each : (k : OnPlaque) → onPlaque count t m ws x region k empty ≡ Local.due (readerOf x region) (tagNotFound (m .node) (bare count) t)
+      each Fill = refl
+      each Read = refl
+      each Write = refl
+      each ReadId = refl
+      each Search = refl
 
   -- ---- 04 to 06; `past` is what the code found
   module _ {past : Bool} (e : past ≡ ltb (x .plaque .length .0) (m .start + m .size)) where
-    module _ (a : Servable full t (K.Plaque Fill) m ws x (length region) room × (x .plaque .present ≡ true)) where
-      pub fill-past : past ≡ true → d ≡ refusal x 12 → Obeys full count t (K.Plaque Fill) m ws x region d out
-      fill-past h w =
-          serves-refused (a .0 .readable .inOrder) w
-          (L.fill-12 (m .node) (bare count) t m _ (readerOf x region) _ _ (field x region (a .1))
-          (lt-leb (m .start + m .size) (x .plaque .length .0) (is-past e h)))
+    pub past-refused : {k : OnPlaque} (l : Local M.Reader)
+        → onPlaque count t m ws x region k (plaque (x .plaque .id) (x .plaque .length .0)) ≡ ranged m (x .plaque .length .0) l
+        → Servable full t (K.Plaque k) m ws x (length region) room × (x .plaque .present ≡ true) → past ≡ true → d ≡ refusal x 12
+        → Obeys full count t (K.Plaque k) m ws x region d out
+    unfolding ranged
+    past-refused {k} l r a h w = serves-refused (a .0 .readable .inOrder) w
+        (on-plaque count t m ws x region k (a .1) ∙ r ∙ no-cond _ (lt-leb (m .start + m .size) (x .plaque .length .0) (is-past e h)))
 
-      pub fill-due : past ≡ false → {b : ℕ} {r : Response} {k : Words} → b ≡ byteAt ws 0 → r ≡ good count (m .node) t 0x04
-          → Says full r [] (k .0) out
-          → d ≡ reply x (C.Filled (m .start) (m .size) b) k → Obeys full count t (K.Plaque Fill) m ws x region d out
-      unfolding readerOf altered loadOf Suits Ready
-      fill-due h {b} v g s w =
-          let c : ℕ = carried (rowOf full (m .command)) m in
-          let z : length (take c (bytesOf ws)) ≡ min c (length (bytesOf ws)) = length-take c (bytesOf ws) in
-          let one : 1 ≤ length (take c (bytesOf ws)) = a .0 .ready in
-          serves-good (a .0 .readable .inOrder) w g s (in-region (a .0 .readable) (a .1) (not-past e h))
-          (L.fill-due (m .node) (bare count) t m _ (readerOf x region) _ _ (field x region (a .1))
-          (le-leb (m .start + m .size) (x .plaque .length .0) (not-past e h))
-          ∙ ap (λ (b : ℕ). Local.due (readerOf x (paste region (m .start) (replicate (m .size) b) (m .size)))
-          (answer (m .node) (bare count) t 0x04 []))
-          (getD-take c (bytesOf ws) 0 0 (omega arith) ∙ sym v))
+    pub fill-due : Servable full t (K.Plaque Fill) m ws x (length region) room × (x .plaque .present ≡ true) → past ≡ false
+        → {b : ℕ} {r : Response} {k : Words} → b ≡ byteAt ws 0 → r ≡ good count (m .node) t 0x04 → Says full r [] (k .0) out
+        → d ≡ reply x (C.Filled (m .start) (m .size) b) k → Obeys full count t (K.Plaque Fill) m ws x region d out
+    unfolding readerOf altered loadOf Suits Ready tagged ranged
+    fill-due a h {b} v g s w =
+        let c : ℕ = carried (rowOf full (m .command)) m in
+        let z : length (take c (bytesOf ws)) ≡ min c (length (bytesOf ws)) = length-take c (bytesOf ws) in
+        let one : 1 ≤ length (take c (bytesOf ws)) = a .0 .ready in
+        serves-good (a .0 .readable .inOrder) w g s (in-region (a .0 .readable) (a .1) (not-past e h))
+        (on-plaque count t m ws x region Fill (a .1) ∙ yes-cond _ (le-leb (m .start + m .size) (x .plaque .length .0) (not-past e h))
+        ∙ ap (λ (b : ℕ). Local.due (readerOf x (paste region (m .start) (replicate (m .size) b) (m .size)))
+        (answer (m .node) (bare count) t 0x04 []))
+        (getD-take c (bytesOf ws) 0 0 (omega arith) ∙ sym v))
 
-    module _ (a : Servable full t (K.Plaque Read) m ws x (length region) room × (x .plaque .present ≡ true)) where
-      pub read-past : past ≡ true → d ≡ refusal x 12 → Obeys full count t (K.Plaque Read) m ws x region d out
-      read-past h w =
-          serves-refused (a .0 .readable .inOrder) w
-          (L.read-12 (m .node) (bare count) t m _ (readerOf x region) _ _ (field x region (a .1))
-          (lt-leb (m .start + m .size) (x .plaque .length .0) (is-past e h)))
+    pub read-due : Servable full t (K.Plaque Read) m ws x (length region) room × (x .plaque .present ≡ true) → past ≡ false
+        → {r : Response} {k : Words} → r ≡ good count (m .node) t 0x05
+        → Says full r (take (m .start + m .size - m .start) (drop (m .start) region)) (k .0) out
+        → d ≡ reply x C.Kept k → Obeys full count t (K.Plaque Read) m ws x region d out
+    unfolding readerOf altered Suits tagged ranged
+    read-due a h g s w =
+        let i : m .start + m .size ≤ length region = in-region (a .0 .readable) (a .1) (not-past e h) in
+        serves-good (a .0 .readable .inOrder) w g s tt
+        (on-plaque count t m ws x region Read (a .1) ∙ yes-cond _ (le-leb (m .start + m .size) (x .plaque .length .0) (not-past e h))
+        ∙ ap (λ (s : List ℕ). Local.due (readerOf x region) (answer (m .node) (bare count) t 0x05 s))
+        (sym (cut region (m .start) (m .size) i (m .start + m .size - m .start) (omega arith))))
 
-      pub read-due : past ≡ false → {r : Response} {k : Words} → r ≡ good count (m .node) t 0x05
-          → Says full r (take (m .start + m .size - m .start) (drop (m .start) region)) (k .0) out
-          → d ≡ reply x C.Kept k → Obeys full count t (K.Plaque Read) m ws x region d out
-      unfolding readerOf altered Suits
-      read-due h g s w =
-          let n : ℕ = m .start + m .size - m .start in
-          let i : m .start + m .size ≤ length region = in-region (a .0 .readable) (a .1) (not-past e h) in
-          serves-good (a .0 .readable .inOrder) w g s tt
-          (L.read-due (m .node) (bare count) t m _ (readerOf x region) _ _ (field x region (a .1))
-          (le-leb (m .start + m .size) (x .plaque .length .0) (not-past e h))
-          ∙ ap (λ (s : List ℕ). Local.due (readerOf x region) (answer (m .node) (bare count) t 0x05 s))
-          (sym (cut region (m .start) (m .size) i n (omega arith))))
-
-    module _ (a : Servable full t (K.Plaque Write) m ws x (length region) room × (x .plaque .present ≡ true)) where
-      pub write-past : past ≡ true → d ≡ refusal x 12 → Obeys full count t (K.Plaque Write) m ws x region d out
-      write-past h w =
-          serves-refused (a .0 .readable .inOrder) w
-          (L.write-12 (m .node) (bare count) t m _ (readerOf x region) _ _ (field x region (a .1))
-          (lt-leb (m .start + m .size) (x .plaque .length .0) (is-past e h)))
-
-      pub write-due : past ≡ false → {r : Response} {k : Words} → r ≡ good count (m .node) t 0x06 → Says full r [] (k .0) out
-          → d ≡ reply x (C.Written (m .start) (m .size)) k → Obeys full count t (K.Plaque Write) m ws x region d out
-      unfolding readerOf altered loadOf Suits Ready
-      write-due h g s w =
-          let c : ℕ = carried (rowOf full (m .command)) m in
-          let z : length (take c (bytesOf ws)) ≡ min c (length (bytesOf ws)) = length-take c (bytesOf ws) in
-          let came : m .size ≡ length (take c (bytesOf ws)) = a .0 .ready .1 in
-          serves-good (a .0 .readable .inOrder) w g s (in-region (a .0 .readable) (a .1) (not-past e h), omega arith)
-          (L.write-due (m .node) (bare count) t m _ (readerOf x region) _ _ (field x region (a .1))
-          (le-leb (m .start + m .size) (x .plaque .length .0) (not-past e h))
-          ∙ ap (λ (s : List ℕ). Local.due (readerOf x (take (m .start) region ++ s ++ drop (m .start + m .size) region))
-          (answer (m .node) (bare count) t 0x06 []))
-          (take-take (m .size) c (bytesOf ws) (omega arith)))
+    pub write-due : Servable full t (K.Plaque Write) m ws x (length region) room × (x .plaque .present ≡ true) → past ≡ false
+        → {r : Response} {k : Words} → r ≡ good count (m .node) t 0x06 → Says full r [] (k .0) out
+        → d ≡ reply x (C.Written (m .start) (m .size)) k → Obeys full count t (K.Plaque Write) m ws x region d out
+    unfolding readerOf altered loadOf Suits Ready tagged ranged
+    write-due a h g s w =
+        let c : ℕ = carried (rowOf full (m .command)) m in
+        let z : length (take c (bytesOf ws)) ≡ min c (length (bytesOf ws)) = length-take c (bytesOf ws) in
+        let came : m .size ≡ length (take c (bytesOf ws)) = a .0 .ready .1 in
+        serves-good (a .0 .readable .inOrder) w g s (in-region (a .0 .readable) (a .1) (not-past e h), omega arith)
+        (on-plaque count t m ws x region Write (a .1) ∙ yes-cond _ (le-leb (m .start + m .size) (x .plaque .length .0) (not-past e h))
+        ∙ ap (λ (s : List ℕ). Local.due (readerOf x (take (m .start) region ++ s ++ drop (m .start + m .size) region))
+        (answer (m .node) (bare count) t 0x06 []))
+        (take-take (m .size) c (bytesOf ws) (omega arith)))
 
   -- ---- 07, 08
   module _ (p : x .plaque .present ≡ true) {r : Response} {k : Words} where
     pub id-due : Servable full t (K.Plaque ReadId) m ws x (length region) room → r ≡ good count (m .node) t 0x07
         → Says full r (x .plaque .id) (k .0) out → d ≡ reply x C.Kept k → Obeys full count t (K.Plaque ReadId) m ws x region d out
-    unfolding altered Suits
-    id-due a g s w =
-        serves-good (a .readable .inOrder) w g s tt
-        (L.id-due (m .node) (bare count) t m _ (readerOf x region) _ _ (field x region p))
+    unfolding altered Suits tagged
+    id-due a g s w = serves-good (a .readable .inOrder) w g s tt (on-plaque count t m ws x region ReadId p)
 
     pub search-due : Servable full t (K.Plaque Search) m ws x (length region) room → r ≡ good count (m .node) t 0x08
         → Says full r [] (k .0) out → d ≡ reply x C.Kept k → Obeys full count t (K.Plaque Search) m ws x region d out
-    unfolding altered Suits
-    search-due a g s w =
-        serves-good (a .readable .inOrder) w g s tt
-        (L.search-due (m .node) (bare count) t m _ (readerOf x region) _ _ (field x region p))
+    unfolding altered Suits tagged
+    search-due a g s w = serves-good (a .readable .inOrder) w g s tt (on-plaque count t m ws x region Search p)
 
   -- ---- 0D, 54; y is the reader after
   module _ {r : Response} {k : Words} {y : Reader} where

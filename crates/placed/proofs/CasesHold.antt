@@ -6,14 +6,15 @@ use Rattle.meaning.proofs.Opened.{responseRead, gateway}
 use Rattle.state.proofs.Terms.{fieldOf, reportOf, modeOf, regionOf, readerOf, seen, readersOf, chargesOf, bounded, plaqueOk, readingOk}
 use Rattle.state.proofs.Terms.{reportOk, readerOk, nameOk}
 use Rattle.placed.specs.Machine.{answerAt, startsOf, pendingOf, nodeOf, nodesOf, meaning}
-use Rattle.placed.specs.Consistent.{okAnswer, overlap, clearOf, spots, inOrder, fineLists, heldsOf, counted, listClear, listsOk}
+use Rattle.placed.specs.Consistent.{okAnswer, overlap, clearOf, spots, inOrder, fineLists, heldsOf, countRight, listClear, listsOk}
 use Rattle.placed.specs.Consistent.{nodeOk, arrays, consistent, lengths, lent, unfit}
 use Rattle.placed.specs.Cases.{lentCases, answerCases, sharingCases, countCases, boundCases, nodeCases, otherCases, stateCases, flat}
 use Rattle.placed.specs.Cases.{machineCases}
 
 -- what the rows compute with: to name one of these on a line of `unfolding` opens all that its own line names
 unfoldable pub lists : ℕ
-unfolding answerAt startsOf pendingOf okAnswer overlap clearOf spots inOrder fineLists heldsOf counted chargesOf bounded listClear listsOk
+unfolding answerAt startsOf pendingOf okAnswer overlap clearOf spots inOrder fineLists heldsOf
+    countRight chargesOf bounded listClear listsOk
 lists = 0
 
 unfoldable pub machines : ℕ

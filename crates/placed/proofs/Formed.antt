@@ -6,7 +6,7 @@ use Rattle.meaning.proofs.Terms.{Bench, wordNo, wellFormed}
 use Rattle.state.proofs.Terms.{nodeAt}
 use Rattle.state.proofs.Lists.{both}
 use Rattle.lists.specs.Line as L
-use Rattle.lists.proofs.Answers as A
+use Rattle.lists.proofs.WordsRead as A
 use Rattle.placed.specs.Consistent.{okAnswer}
 use Rattle.placed.specs.Machine.{answerAt}
 

@@ -1,4 +1,4 @@
--- Lists that are fine: each answer in order as one of its node's; lists whose words are counted; and that these lie inside the store.
+-- Lists that are fine: each answer in order as one of its node's; lists whose words are counted right; and that these lie inside the store.
 -- Assumes nothing.
 use Rattle.units.proofs.Common.{_∙_, _≡_, refl, ap, true, cond, List, [], _∷_, _++_, map, ℕ, _≤_, _+_, _<_, suc, _*_, zero, add-zero}
 use Rattle.units.proofs.Common.{zero-add, arith, eqb, length, getD, length-append, length-map, List·getD-map, List·getD-append, eqb-true}
@@ -7,7 +7,7 @@ use native.Mathlib.Nat.{add-suc, suc-add}
 use Rattle.meaning.proofs.Terms.{Bench, added, held}
 use Rattle.state.proofs.Terms.{bounded}
 use Rattle.state.proofs.Lists.{getD-any, every-get}
-use Rattle.placed.specs.Consistent.{okAnswer, clearOf, spots, inOrder, fineLists, heldsOf, counted, listClear, listsOk}
+use Rattle.placed.specs.Consistent.{okAnswer, clearOf, spots, inOrder, fineLists, heldsOf, countRight, listClear, listsOk}
 use Rattle.placed.specs.Walked.{wordsOf}
 use Rattle.placed.specs.Machine.{placesOf, pendingOf, nodeOf}
 use Rattle.placed.specs.State.{noAnswers, freshNode}
@@ -86,11 +86,11 @@ pub words-at : (ns : List Node) (i : ℕ) → getD (wordsOf ns) i 0 ≡ listAt n
 words-at ns i = List·getD-map (λ n. n .list .words .0) ns i freshNode
 
 -- where each node's count of its words is right, the counts are the held words
-pub counted-is : (store : List ℕ) (ns : List Node) → every (counted store) ns ≡ true → wordsOf ns ≡ heldsOf store ns
-unfolding every counted heldsOf
+pub counted-is : (store : List ℕ) (ns : List Node) → every (countRight store) ns ≡ true → wordsOf ns ≡ heldsOf store ns
+unfolding every countRight heldsOf
 counted-is store [] h = refl
 counted-is store (n ∷ ns) h =
-    let a = and-true (counted store n) (every (counted store) ns) h in
+    let a = and-true (countRight store n) (every (countRight store) ns) h in
     let e : n .list .words .0 ≡ added (pendingOf store (n .list)) = eqb-true _ _ (a .0) in
     ap (λ (w : ℕ). w ∷ wordsOf ns) e
     ∙ ap (λ (l : List ℕ). added (pendingOf store (n .list)) ∷ l) (counted-is store ns (a .1))
@@ -107,15 +107,15 @@ clear-place k p c z = eqb-true p 0 (rw z at c)
 
 module _ (b : Bench) (store : List ℕ) (ns : List Node) (o : listsOk b store ns ≡ true) (j : ℕ) (h : j < length ns) where
   counted-at : listAt ns j .words .0 ≡ span store (listAt ns j .count) (listAt ns j .place)
-  unfolding listsOk counted pendingOf
+  unfolding listsOk countRight pendingOf
   counted-at =
-      let c = and-true (every (counted store) ns) _ (and-true (fineLists b store ns) _ o .1) .0 in
-      eqb-true _ _ (every-get (counted store) ns j freshNode c h)
+      let c = and-true (every (countRight store) ns) _ (and-true (fineLists b store ns) _ o .1) .0 in
+      eqb-true _ _ (every-get (countRight store) ns j freshNode c h)
 
   clear-at : listAt ns j .count ≡ 0 → listAt ns j .place ≡ 0
   unfolding listsOk listClear
   clear-at =
-      let q = and-true (every (counted store) ns) _ (and-true (fineLists b store ns) _ o .1) .1 in
+      let q = and-true (every (countRight store) ns) _ (and-true (fineLists b store ns) _ o .1) .1 in
       let z = and-true (bounded b (heldsOf store ns)) (every listClear ns) q .1 in
       clear-place (listAt ns j .count) (listAt ns j .place) (every-get listClear ns j freshNode z h)
 

@@ -14,7 +14,7 @@ use Rattle.placed.specs.declared.Pending.{Pending}
 use Rattle.placed.proofs.InOrder.{listAt}
 use Rattle.state.proofs.Lists.{below-or}
 use Rattle.placed.proofs.Starts.{starts-tail}
-use Rattle.placed.specs.Marks.{Marked, Free, Taken}
+use Rattle.placed.specs.Marks.{Marked, Free, MarkWithin}
 
 -- true is not false
 pub apart : {b : Bool} → b ≡ true → b ≡ false → ⊥
@@ -120,7 +120,7 @@ module _ (b : Bench) (size : ℕ) (store : List ℕ) (ns : List Node) where
 
   -- .. or with a word that is marked ..
   pub walk-taken : (m : List Bool) (i p : ℕ) (rest : List (ℕ × ℕ)) → Walk b size store ns m ((i, p) ∷ rest)
-      → okAnswer b store i p ≡ true → p + getD store p 0 ≤ size → Taken m p (getD store p 0) → fineLists b store ns ≡ false
+      → okAnswer b store i p ≡ true → p + getD store p 0 ≤ size → MarkWithin m p (getD store p 0) → fineLists b store ns ≡ false
   unfolding inOrder
   walk-taken m i p rest k h l t =
       k .goes

@@ -49,15 +49,15 @@ unfoldable pub heldsOf : List ℕ → List Node → List ℕ
 heldsOf store ns = map (λ n. added (pendingOf store (n .list))) ns
 
 -- a node's count of them is right
-unfoldable pub counted : List ℕ → Node → Bool
-counted store n = eqb (n .list .words .0) (added (pendingOf store (n .list)))
+unfoldable pub countRight : List ℕ → Node → Bool
+countRight store n = eqb (n .list .words .0) (added (pendingOf store (n .list)))
 
 -- ---- "0 in each field that has no meaning now": the place of a list that has no answer
 unfoldable pub listClear : Node → Bool
 listClear n = cond (eqb (n .list .count) 0) (eqb (n .list .place) 0) true
 
 unfoldable pub listsOk : Bench → List ℕ → List Node → Bool
-listsOk b store ns = fineLists b store ns && (every (counted store) ns && (bounded b (heldsOf store ns) && every listClear ns))
+listsOk b store ns = fineLists b store ns && (every (countRight store) ns && (bounded b (heldsOf store ns) && every listClear ns))
 
 -- ---- "every other field within the limits here"
 unfoldable pub nodeOk : Node → Bool

@@ -15,7 +15,7 @@ pub record Marked (m m′ : List Bool) (p len : ℕ) : Type 0 where
 abbrev pub Free : List Bool → ℕ → ℕ → Type 0
 Free m p len = (w : ℕ) → p ≤ w → w < p + len → getD m w false ≡ false
 
-pub record Taken (m : List Bool) (p len : ℕ) : Type 0 where
+pub record MarkWithin (m : List Bool) (p len : ℕ) : Type 0 where
   pub place : ℕ
   pub from : p ≤ place
   pub to : place < p + len

@@ -16,16 +16,16 @@ ghost use Rattle.meaning.specs.Bench.{full};
 ghost use Rattle.meaning.specs.Room.{added};
 ghost use Rattle.state.specs.Consistent.{counts};
 ghost use Rattle.placed.specs.Machine.{pendingOf};
-ghost use Rattle.placed.specs.Consistent.{fineLists, counted, listClear, listsOk};
+ghost use Rattle.placed.specs.Consistent.{fineLists, countRight, listClear, listsOk};
 ghost use Rattle.placed.specs.Walked.{InStore, wordsOf};
-ghost use Rattle.placed.specs.Marks.{Marked, Free, Taken};
+ghost use Rattle.placed.specs.Marks.{Marked, Free, MarkWithin};
 
 const STORE: usize = Words::STORE.0 as usize;
 
 // Whether no word of an answer is marked.
 fn all_free(used: &[bool; STORE], place: usize, len: usize) -> bool
     requires { ⌜ place + len ≤ full .store ⌝ }
-    ensures { λ r. ⌜ ((r ≡ true) × Free (now (used .entry)) place len) ⊎ ((r ≡ false) × Taken (now (used .entry)) place len) ⌝ }
+    ensures { λ r. ⌜ ((r ≡ true) × Free (now (used .entry)) place len) ⊎ ((r ≡ false) × MarkWithin (now (used .entry)) place len) ⌝ }
 {
     let end = place + len;
     let mut w = place;
@@ -102,7 +102,7 @@ fn is_counted(list: Pending, i: usize, store: &[u16]) -> bool
 
 fn all_counted(nodes: [Node; NODES], store: &[u16]) -> bool
     requires { ⌜ (length (now store) ≡ full .store) × (fineLists full (now store) nodes ≡ true) ⌝ }
-    ensures { λ r. ⌜ r ≡ every (counted (now (store .entry))) nodes ⌝ }
+    ensures { λ r. ⌜ r ≡ every (countRight (now (store .entry))) nodes ⌝ }
 {
     let mut i: usize = 0;
     while i < NODES {

@@ -10,7 +10,7 @@ use Rattle.state.proofs.Terms.{freshNode, noPlaque, Machine, machine, meaning}
 use Rattle.state.specs.declared.node.Node.{Node}
 use Rattle.state.specs.declared.reader.Reader.{Reader}
 use Rattle.state.specs.declared.State.{State}
-use Rattle.promise.specs.Obeyed.{spoken, Does}
+use Rattle.promise.specs.Obeyed.{saidOf, Does}
 use Rattle.promise.specs.declared.Reply.{Reply}
 use Rattle.promise.proofs.Readers.{withReader, withPlaque}
 use Rattle.promise.proofs.Plaques.{left-14, left-0, arrived-0}
@@ -23,16 +23,16 @@ use Rattle.settle.proofs.Seating.{still}
 pub record Limits (n : ℕ) (id s : List ℕ) : Type 0 where
   pub reader : isReader full n ≡ true
   pub eight : length id ≡ 8
-  pub bytes : within 1 1024 (length s) ≡ true
+  pub bytes : within 1 (full .region) (length s) ≡ true
   pub some : 1 ≤ length s
-  pub few : length s ≤ 1024
+  pub few : length s ≤ full .region
 
 pub limits : (n : ℕ) (id s : List ℕ) → judged full (arrive n id s) ≡ 0 → Limits n id s
 unfolding judged asked
 limits n id s e =
     let p = accepts (7 when not (isReader full n)) _ e in
     let q = accepts (9 when not (eqb (length id) 8)) _ (p .1) in
-    let w : within 1 1024 (length s) ≡ true = not-false _ (fine 10 (not (within 1 1024 (length s))) refl (q .1)) in
+    let w : within 1 (full .region) (length s) ≡ true = not-false _ (fine 10 (not (within 1 (full .region) (length s))) refl (q .1)) in
     let o = and-true (leb 1 (length s)) _ w in
     record {
       reader = not-false _ (fine 7 (not (isReader full n)) refl (p .0));
@@ -58,7 +58,7 @@ module _ (n : ℕ) (own : Node) (x : Reader) (held : List Words) (store memory :
 
   pub leaves-refused : isReader full n ≡ true → x .plaque .present ≡ false
       → Seats full (λ g. step full g (leave n)) n own x held store memory (back x (Reply.Refused 14)) store memory
-  unfolding spoken
+  unfolding saidOf
   leaves-refused is p s a fit =
       let m : Machine = machine s store memory in
       subst (λ (t : State). Does full (step full (meaning full m) (leave n)) m (refused 14) (machine t store memory))
@@ -66,7 +66,7 @@ module _ (n : ℕ) (own : Node) (x : Reader) (held : List Words) (store memory :
 
   pub leaves-done : isReader full n ≡ true → x .plaque .present ≡ true → {y : Reader} → y ≡ withPlaque x noPlaque
       → Seats full (λ g. step full g (leave n)) n own x held store memory (back y Reply.Done) store memory
-  unfolding spoken
+  unfolding saidOf
   leaves-done is p {y} e s a fit =
       let m : Machine = machine s store memory in
       subst (λ (t : State). Does full (step full (meaning full m) (leave n)) m (answered done) (machine t store memory))
@@ -74,9 +74,9 @@ module _ (n : ℕ) (own : Node) (x : Reader) (held : List Words) (store memory :
 
   pub arrives-done : (id bytes : List ℕ) → judged full (arrive n id bytes) ≡ 0 → {y : Reader}
       → y ≡ withPlaque x (record { present = true; id = id; length = record { 0 = length bytes } }) → (memory′ : List ℕ)
-      → memory′ ≡ paste memory ((n - 1) * 1024) bytes (length bytes)
+      → memory′ ≡ paste memory ((n - 1) * full .region) bytes (length bytes)
       → Seats full (λ g. step full g (arrive n id bytes)) n own x held store memory (back y Reply.Done) store memory′
-  unfolding spoken
+  unfolding saidOf
   arrives-done id bytes j {y} e memory′ w s a fit =
       let m : Machine = machine s store memory in
       let l = limits n id bytes j in

@@ -9,6 +9,7 @@ use state::node::Node;
 use state::reader::Reader;
 use units::Bytes;
 use units::NODES;
+use units::READERS;
 use units::Words;
 ghost use mathlib.Core.Path.{_≡_};
 ghost use mathlib.Core.Bool.{true};
@@ -105,7 +106,7 @@ pub fn leave(s: State, node: u8, store: &[u16], plaques: &[u8]) -> Called
         (now (plaques .entry)) ⌝ }
 {
     let i = reader_slot(node);
-    if 16 <= i {
+    if READERS <= i {
         return refused(s, 7);
     }
     let x = s.readers[i];
@@ -135,7 +136,7 @@ pub fn arrive(
         (now (plaques .entry)) r (now (store .entry)) (now (plaques .exit)) ⌝ }
 {
     let i = reader_slot(node);
-    if 16 <= i {
+    if READERS <= i {
         return refused(s, 7);
     }
     if id.len() != Bytes::ID.0 as usize {

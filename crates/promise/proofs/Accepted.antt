@@ -105,11 +105,11 @@ used l v e o =
 
 -- a node that is not the gateway's own is a reader
 pub reader-suited : (b : Bench) (n : ℕ) → isNode b n ≡ true → not (eqb n hub) ≡ true → isReader b n ≡ true
-reader-suited b n p s = go (isReader b n) (eqb n hub) p (not-true _ s)
+reader-suited b n p s = left-true (isReader b n) (eqb n hub) p (not-true _ s)
   where
-    go : (t u : Bool) → (t || u) ≡ true → u ≡ false → t ≡ true
-    go true u p q = refl
-    go false u p q = absurd (false≢true (sym q ∙ p))
+    left-true : (t u : Bool) → (t || u) ≡ true → u ≡ false → t ≡ true
+    left-true true u p q = refl
+    left-true false u p q = absurd (false≢true (sym q ∙ p))
 
 -- continuous reading
 pub record Reads (b : Bench) (m : Command) : Type 0 where

@@ -19,19 +19,19 @@ use Rattle.demands.proofs.Swept.{sweep-queued, sweep-room}
 use Rattle.demands.proofs.History.{history}
 use Rattle.state.proofs.Terms.{Machine, meaning, regionOf, unfit}
 use Rattle.promise.specs.Obeyed.{expected, Obeyed}
-use Rattle.promise.specs.Runs.{Heard, Chain, ended, calls, lines, freshMachine, reached}
+use Rattle.promise.specs.Runs.{Exchange, Chain, ended, calls, lines, freshMachine, reached}
 use Rattle.promise.proofs.Parts.{unfit-low}
 use Rattle.promise.proofs.Rooms.{fit-bounds}
 use Rattle.promise.proofs.Chains.{stepped, chain-ends, chain-fit, fresh-fit, fresh-means, fresh-lines}
 
 -- the first k calls of a chain are a chain
-pub chain-front : (b : Bench) (k : ℕ) (m : Machine) (hs : List Heard) → Chain b m hs → Chain b m (take k hs)
+pub chain-front : (b : Bench) (k : ℕ) (m : Machine) (hs : List Exchange) → Chain b m hs → Chain b m (take k hs)
 unfolding Chain
 chain-front b zero m hs c = tt
 chain-front b (suc k) m [] c = tt
 chain-front b (suc k) m (h ∷ hs) c = (c .0, chain-front b k (h .after) hs (c .1))
 
-module _ (memory : List ℕ) (bytes : length memory ≡ full .readers * full .region) (hs : List Heard)
+module _ (memory : List ℕ) (bytes : length memory ≡ full .readers * full .region) (hs : List Exchange)
     (chain : Chain full (freshMachine memory) hs) where
   -- after a chain, the code's machine means what the run of its calls comes to
   pub fresh-ends : reached memory hs ≡ run full (fresh (regionOf full memory)) (calls hs)
@@ -40,8 +40,8 @@ module _ (memory : List ℕ) (bytes : length memory ≡ full .readers * full .re
       ∙ ap (λ (g : Gateway). run full g (calls hs)) (fresh-means full memory)
 
   -- "none is refused for room while its held words plus the new answer are at most 134"
-  pub code-never-refused : (h : Heard) → Obeyed full (h .call) (ended (freshMachine memory) hs) (h .said) (h .after) → h .said ≡ refused 13
-      → (n : ℕ) × (g : Gateway) × (w : List ℕ) × (tried full (reached memory hs) (h .call) ≡ Try.due n g w) ×
+  pub code-never-refused : (h : Exchange) → Obeyed full (h .call) (ended (freshMachine memory) hs) (h .said) (h .after)
+      → h .said ≡ refused 13 → (n : ℕ) × (g : Gateway) × (w : List ℕ) × (tried full (reached memory hs) (h .call) ≡ Try.due n g w) ×
       (134 < held (g .nodes n) + wordNo 1 w)
   code-never-refused h o e =
       let u = chain-fit full (freshMachine memory) hs (fresh-fit memory bytes) chain in
@@ -65,10 +65,9 @@ module _ (memory : List ℕ) (bytes : length memory ≡ full .readers * full .re
       held (reached memory hs .nodes n) ≡ added (drop (p .gone) (p .made))
   code-held n = ap added (code-history n .pending)
 
--- "no node holds over 804 words of pending answers", nor do the charges pass the store: after every k calls of a chain, so at each of its
--- machines
+-- "no node holds over 804 words of pending answers", nor do the charges pass the store: after every k calls of a chain
 pub code-never-over : (memory : List ℕ) → length memory ≡ full .readers * full .region
-    → (hs : List Heard) → Chain full (freshMachine memory) hs → (k : ℕ)
+    → (hs : List Exchange) → Chain full (freshMachine memory) hs → (k : ℕ)
     → ((n : ℕ) → held (reached memory (take k hs) .nodes n) ≤ 804) × (charges full (reached memory (take k hs)) ≤ 4096)
 code-never-over memory bytes hs chain k =
     let c = chain-front full k (freshMachine memory) hs chain in
@@ -101,7 +100,7 @@ module _ (b : Bench) (ok : Sound b) (m : Machine) (t : Stamp) (f : Form) (ws : L
 -- strike-out at the end: after both chains reader i's node, its reader with the region, the gateway's own node and the name are the same.
 -- As the first calls of a chain are a chain, so they are at every point of them
 pub struck-end : (i : ℕ) (memory : List ℕ) → length memory ≡ full .readers * full .region
-    → (hs js : List Heard) → Chain full (freshMachine memory) hs → Chain full (freshMachine memory) js
+    → (hs js : List Exchange) → Chain full (freshMachine memory) hs → Chain full (freshMachine memory) js
     → calls js ≡ struck full i (calls hs) → Ease full i (fresh (regionOf full memory)) (calls hs)
     → Same i (reached memory hs) (reached memory js)
 struck-end i memory bytes hs js c d e z =

@@ -10,7 +10,7 @@ use Rattle.state.specs.declared.State.{State}
 use Rattle.state.proofs.Formed.{formed-says}
 use Rattle.lists.specs.Room.{roomFor}
 use Rattle.store.specs.Changes.{Listed, joinedAt}
-use Rattle.promise.specs.Obeyed.{turned, Does}
+use Rattle.promise.specs.Obeyed.{isRefusal, Does}
 use Rattle.promise.proofs.Parts.{parts, Means}
 use Rattle.promise.proofs.Promises.{does-refused, does-said}
 use Rattle.promise.proofs.Rooms.{room-same, added-changed}
@@ -31,7 +31,7 @@ module _ (b : Bench) (m : Machine) (n : ℕ) (h : Gateway) (w : List ℕ) where
 
   pub due-queued : fits b n (join n w h) ≡ true → (m′ : Machine) → Means b m′ (join n w h)
       → Does b (settled b (meaning b m) (Try.due n h w)) m queued m′
-  unfolding settled roomed turned
+  unfolding settled roomed isRefusal
   due-queued f m′ e = rw f (does-said b m queued (join n w h) m′ refl e)
 
 -- the machine m₁ has the effect, and the answer was queued at a state with its nodes

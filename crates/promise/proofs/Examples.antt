@@ -14,6 +14,7 @@ use Rattle.meaning.specs.Command as Command
 use Rattle.meaning.specs.Response as Response
 use Rattle.meaning.specs.Packet as Packet
 use Rattle.meaning.specs.Cases as Packets
+use Rattle.meaning.specs.Bench.{nodeCount}
 use Rattle.meaning.specs.CasesOfCalls as Cases
 use Rattle.meaning.specs.CasesOfCalls.{cmd, idA, clears}
 use Rattle.meaning.specs.Gateway as M
@@ -32,7 +33,7 @@ use Rattle.state.specs.declared.State.{State}
 use Rattle.store.specs.Changes.{withLists, Sound, Listed, takenAt}
 use Rattle.store.proofs.Promised as Lists
 use Rattle.promise.specs.Obeyed as O
-use Rattle.promise.specs.Obeyed.{turned, expected, Obeyed}
+use Rattle.promise.specs.Obeyed.{isRefusal, expected, Obeyed}
 use Rattle.promise.specs.Runs.{Chain, calls, lines, zeroStore, reached}
 use Rattle.promise.specs.Examples.{zeroMemory, begun, visited, notFound, fourBytes, allCleared, holding, relieved, silent, withPlaque}
 use Rattle.promise.specs.Examples.{withNotFound, withBoth, withOther, withFour, withNone, visit, visitAlone, crowding, goingOn}
@@ -42,7 +43,8 @@ use Rattle.promise.proofs.Promises.{saying, obeying}
 use Rattle.promise.proofs.Steps.{same-reader}
 use Rattle.promise.proofs.Rooms.{added-changed}
 use Rattle.promise.proofs.Dues.{Added}
-use Rattle.promise.proofs.Sweeps.{cleared}
+use Rattle.store.proofs.Changed.{clear-empties}
+use Rattle.promise.proofs.Nodes.{nodes-swept}
 use Rattle.promise.proofs.Tables.{node-hub}
 use Rattle.promise.proofs.Plaques.{arrived-0, left-14}
 use Rattle.promise.proofs.Accepted.{_then_}
@@ -60,7 +62,7 @@ record Queues (m : Machine) (n : ℕ) (w : List ℕ) (c : Call) (m′ : Machine)
   kept : m′ .memory ≡ m .memory
 
 queues : {m m′ : Machine} {n : ℕ} {w : List ℕ} {c : Call} → Queues m n w c m′ → Obeyed full c m queued m′
-unfolding turned
+unfolding isRefusal
 queues {m} {m′} {n} {w} {c} q =
     subst (λ (l : List ℕ). Obeyed full c m queued (machine (m′ .state) (m′ .store) l)) (sym (q .kept))
     (obeying full m c (q .fits) queued _ _ refl
@@ -69,31 +71,31 @@ queues {m} {m′} {n} {w} {c} q =
 
 -- the answer to 79, made after the lists are emptied
 abbrev bare : Machine → State
-bare m = withLists (m .state) (map emptiedNode (m .state .nodes)) (replicate 17 nothing)
+bare m = withLists (m .state) (map emptiedNode (m .state .nodes)) (replicate (nodeCount full) nothing)
 
 record Clears (m : Machine) (w : List ℕ) (c : Call) (m′ : Machine) : Type 0 where
   fits : unfit full m ≡ 0
   steps : step full (meaning full m) c ≡ saying queued (join hub w (sweep clearing (meaning full m)))
-  added : Added full zeroStore (m′ .store) (bare m) (m′ .state) 16 w
+  added : Added full zeroStore (m′ .store) (bare m) (m′ .state) (full .readers) w
   kept : m′ .memory ≡ m .memory
 
 emptying : {m m′ : Machine} {w : List ℕ} {c : Call} → Clears m w c m′ → Obeyed full c m queued m′
-unfolding turned zeroStore
+unfolding isRefusal zeroStore
 emptying {m} {m′} {w} {c} q =
     let p = parts full m (q .fits) in
     let o : Sound full (m .store) (m .state) = record { size = p .store; lists = p .lists } in
-    let l = Lists.clears full (m .store) (m .state) o 17 (sym (p .eachNode)) in
-    let z = Lists.wiped full (m .store) (m .state) o 17 (sym (p .eachNode)) ∙ ap (λ (k : ℕ). replicate k 0) (p .store) in
+    let l = Lists.empties full (m .store) (m .state) o (nodeCount full) (sym (p .eachNode)) clear-empties in
+    let z = Lists.wiped full (m .store) (m .state) o (nodeCount full) (sym (p .eachNode)) ∙ ap (λ (k : ℕ). replicate k 0) (p .store) in
     let clean : Means full (machine (bare m) zeroStore (m .memory)) (sweep clearing (meaning full m)) =
-    cleared full m (q .fits) zeroStore (bare m) (rw z at l) in
+    nodes-swept full m p clearing (clear-empties .blank) zeroStore (bare m) (rw z at l) in
     let m₁ : Machine = machine (bare m) zeroStore (m .memory) in
     subst (λ (l : List ℕ). Obeyed full c m queued (machine (m′ .state) (m′ .store) l)) (sym (q .kept))
     (obeying full m c (q .fits) queued _ _ refl (q .steps ∙ ap (λ (g : Gateway). saying queued (join hub w g)) (sym (clean .means)))
     (added-changed full m₁ hub w (node-hub full) (parts full m₁ (clean .fit)) (m′ .store) (m′ .state) (q .added)))
 
 -- the oldest answer of node 2 gone
-abbrev Taken : Machine → Machine → Type 0
-Taken m m′ = Listed full (m .store) (m′ .store) (m .state) (m′ .state) (takenAt (nodesIn (m .store) (m .state .nodes)) 1)
+abbrev OldestGone : Machine → Machine → Type 0
+OldestGone m m′ = Listed full (m .store) (m′ .store) (m .state) (m′ .state) (takenAt (nodesIn (m .store) (m .state .nodes)) 1)
 
 -- ---- a call of collect, which leaves the machine as it is
 collects : (m : Machine) (f : Form) (n room : ℕ) (s : Said) → expected full (collect f n room) m .said ≡ s
@@ -129,8 +131,8 @@ record Computed : Type 0 where
   readAlone : Queues withPlaque 2 fourBytes (cmd (Packets.reads 2 0 4)) withFour
   both : unfit full withBoth ≡ 0
   four : unfit full withFour ≡ 0
-  acked : Taken withBoth withOther
-  ackedAlone : Taken withFour withNone
+  acked : OldestGone withBoth withOther
+  ackedAlone : OldestGone withFour withNone
   collected : expected full (collect Framed 2 134) withBoth .said ≡ answered (handed (0xFF02 ∷ fourBytes) 1)
   collectedAlone : expected full (collect Framed 2 134) withFour .said ≡ answered (handed (0xFF02 ∷ fourBytes) 1)
   cleared : Clears withOther allCleared (cmd clears) (visited relieved relieved (holding 6) (allCleared ++ replicate 4090 0))

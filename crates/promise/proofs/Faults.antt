@@ -21,16 +21,16 @@ module _ (b : Bench) (ok : Sound b) (c : Call) (m : Machine) where
 
   first-fault : First
   unfolding expected unfit faults
-  first-fault = go (eqb (unfit b m) 0) refl
+  first-fault = by-fit (eqb (unfit b m) 0) refl
     where
-      go : (t : Bool) → eqb (unfit b m) 0 ≡ t → First
-      go true e =
+      by-fit : (t : Bool) → eqb (unfit b m) 0 ≡ t → First
+      by-fit true e =
           let is : expected b c m ≡ step b (meaning b m) c = yes-cond _ e in
           record {
             first = ap (λ (o : Outcome). number (o .said)) is ∙ number-step b ok (meaning b m) c ∙ sym (pass (lent b m) _ (eqb-true _ _ e));
             some = λ k h. omega (arith, refused-numbers b ok (meaning b m) c k (ap (λ (o : Outcome). o .said) (sym is) ∙ h));
           }
-      go false e =
+      by-fit false e =
           let z = eqb-false (unfit b m) 0 e in
           let is : expected b c m ≡ record { said = refused (unfit b m); next = meaning b m } = no-cond _ e in
           record {
@@ -42,7 +42,6 @@ module _ (b : Bench) (ok : Sound b) (c : Call) (m : Machine) where
   unfolding rise numbers doubts faults lent
   faults-rise = rise-down 2 3 (numbers (doubts (wrong b (meaning b m) c))) (omega arith) (wrong-rise b (meaning b m) c)
 
-  -- "each given exactly when that paper says": a refusal's number applies, and no lower one of the sixteen; where one applies, there is a
-  -- refusal
+  -- "each given exactly when that paper says": a refusal's number applies, and no lower one; where one applies, there is a refusal
   pub code-lowest : (said : Said) (m′ : Machine) → Obeyed b c m said m′ → Lowest said (faults b m c)
   code-lowest said m′ o = rw (o .says) (lowest-by _ _ faults-rise (first-fault .some) (first-fault .first))

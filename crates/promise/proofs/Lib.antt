@@ -6,11 +6,10 @@ pub mod Nodes
 pub mod Promises
 pub mod Steps
 pub mod Rooms
-pub mod Answers
+pub mod Formed
 pub mod Dues
 pub mod Plaques
 pub mod Oldest
-pub mod Sweeps
 pub mod Only
 pub mod Faults
 pub mod Chains
@@ -18,6 +17,5 @@ pub mod Demands
 pub mod Possible
 pub mod Examples
 pub mod Sixteen
-pub mod Locals
 pub mod Commands
 pub mod Accepted

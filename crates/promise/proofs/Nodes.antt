@@ -28,11 +28,11 @@ handovers w (n ∷ ns) = ap (λ t. nodeOk n && t) (handovers _ ns)
 -- the number that follows is one
 pub onward-ok : (h : ℕ) → leb 1 (onward h) ≡ true
 unfolding onward
-onward-ok h = go (eqb h 65535)
+onward-ok h = by-last (eqb h 65535)
   where
-    go : (t : Bool) → leb 1 (cond t 1 (h + 1)) ≡ true
-    go true = refl
-    go false = le-leb 1 (h + 1) (omega arith)
+    by-last : (t : Bool) → leb 1 (cond t 1 (h + 1)) ≡ true
+    by-last true = refl
+    by-last false = le-leb 1 (h + 1) (omega arith)
 
 emptied-numbered : (x : M.Node) (as' : List (List ℕ)) → numbered x ≡ true → leb 1 ((emptied x as') .handover) ≡ true
 unfolding emptied numbered

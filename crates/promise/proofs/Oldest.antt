@@ -1,7 +1,7 @@
 -- Acknowledge and collect, of the machine: a law for each way that the code returns.
 -- Assumes nothing.
-use Rattle.units.proofs.Common.{sym, _∙_, _≡_, refl, ap, true, false, Bool, cond, not, true≢false, List, [], _∷_, _++_, ℕ, _≤_, _+_, _<_}
-use Rattle.units.proofs.Common.{suc, zero-add, arith, eqb, length, drop, getD, set, eq-eqb, ne-eqb, le-leb, eqb-true, lt-leb, word}
+use Rattle.units.proofs.Common.{sym, _∙_, _≡_, refl, ap, true, false, Bool, cond, not, true≢false, List, [], _∷_, ℕ, _≤_, _+_, _<_}
+use Rattle.units.proofs.Common.{arith, eqb, length, getD, eq-eqb, ne-eqb, le-leb, eqb-true, lt-leb, word}
 use Rattle.units.proofs.Common.{yes-cond, no-cond}
 use Rattle.units.specs.declared.Form.{Form}
 use Rattle.meaning.proofs.Terms.{Bench, isNode, bears, shown, setNode, taken, collect, acknowledge, Said, refused, answered, done, handed}
@@ -12,10 +12,10 @@ use Rattle.state.proofs.Terms.{freshNode, Machine, machine, meaning, nodeSlot, 
 use Rattle.state.specs.declared.node.Node.{Node}
 use Rattle.state.specs.declared.State.{State}
 use Rattle.state.proofs.Read.{nodeFor, node-for}
-use Rattle.moves.specs.Moved.{putIn}
+use lib.Seq.{sets}
 use Rattle.store.specs.Changes.{Sound, Listed, takenAt}
 use Rattle.store.proofs.Promised.{Take, taking}
-use Rattle.promise.specs.Obeyed.{turned, Does, expected, Obeyed, replied, written, Collects}
+use Rattle.promise.specs.Obeyed.{isRefusal, Does, expected, Obeyed, replied, written, Collects}
 use Rattle.promise.specs.declared.Handout.{Handout}
 use Rattle.promise.proofs.Parts.{parts, Means}
 use Rattle.promise.proofs.Tables.{node-inside, node-at}
@@ -47,11 +47,11 @@ module _ (b : Bench) (m : Machine) (fits : unfit b m ≡ 0) (n i : ℕ) (is : is
   pending-long = ap (λ (y : Node). y .answers) (sym node-counts)
 
   pub pending-none : x .answers ≡ 0 → meaning b m .nodes n .pending ≡ []
-  pending-none e = go (meaning b m .nodes n .pending) (pending-long ∙ e)
+  pending-none e = no-length (meaning b m .nodes n .pending) (pending-long ∙ e)
     where
-      go : (as' : List (List ℕ)) → length as' ≡ 0 → as' ≡ []
-      go [] h = refl
-      go (a ∷ r) h = absurd (omega arith)
+      no-length : (as' : List (List ℕ)) → length as' ≡ 0 → as' ≡ []
+      no-length [] h = refl
+      no-length (a ∷ r) h = absurd (omega arith)
 
   pub index-inside : i < length (m .state .nodes)
   index-inside = rw (← slot) (node-inside b n (length (m .state .nodes)) is (parts b m fits .eachNode))
@@ -98,7 +98,7 @@ module _ (b : Bench) (m : Machine) (fits : unfit b m ≡ 0) (n h : ℕ) where
     pub acked-0 : 0 < x .answers → h ≡ x .handover → (store′ : List ℕ) (s′ : State)
         → Listed b (m .store) store′ (m .state) s′ (takenAt (nodesIn (m .store) (m .state .nodes)) i)
         → Obeyed b (acknowledge n h) m (answered done) (machine s′ store′ (m .memory))
-    unfolding turned
+    unfolding isRefusal
     acked-0 some e store′ s′ a =
         let w = oldest-first b m fits n i is slot x at some in
         obeying b m (acknowledge n h) fits (answered done) _ _ refl
@@ -108,19 +108,19 @@ module _ (b : Bench) (m : Machine) (fits : unfit b m ≡ 0) (n h : ℕ) where
 -- ---- collect: it is obeyed by a machine that stays as it is
 module _ (b : Bench) (m : Machine) (f : Form) (n room : ℕ) where
   pub collect-obeyed : Obeyed b (collect f n room) m (expected b (collect f n room) m .said) m
-  unfolding expected turned
-  collect-obeyed = go (eqb (unfit b m) 0) refl
+  unfolding expected isRefusal
+  collect-obeyed = by-fit (eqb (unfit b m) 0) refl
     where
-      go : (t : Bool) → eqb (unfit b m) 0 ≡ t
+      by-fit : (t : Bool) → eqb (unfit b m) 0 ≡ t
           → (let o = cond t (step b (meaning b m) (collect f n room)) (saying (refused (unfit b m)) (meaning b m)) in Does b o m (o .said)
           m)
-      go true e = record {
+      by-fit true e = record {
         says = refl;
         refusal = λ _. refl;
         sound = λ _. eqb-true (unfit b m) 0 e;
         means = λ _. sym (collect-keeps b (meaning b m) f n room);
       }
-      go false e = record { says = refl; refusal = λ _. refl; sound = λ z. absurd (true≢false z); means = λ _. refl }
+      by-fit false e = record { says = refl; refusal = λ _. refl; sound = λ z. absurd (true≢false z); means = λ _. refl }
 
   collects : (s : Said) (r : Handout) (out out′ : List ℕ) → expected b (collect f n room) m .said ≡ s → r ≡ replied s → out′ ≡ written s out
       → Collects b (collect f n room) m r out out′
@@ -155,7 +155,7 @@ module _ (b : Bench) (m : Machine) (f : Form) (n room : ℕ) where
             refusing 16 out
             (collect-16 b (meaning b m) f n room is _ (w .0) (w .1) (rw e (lt-leb (length v) room h)))
 
-        pub collected-0 : length v ≤ room → (out out′ : List ℕ) → out′ ≡ v ++ drop (length v) out → (k : ℕ) → k ≡ length v
+        pub collected-0 : length v ≤ room → (out out′ : List ℕ) → out′ ≡ sets out 0 v → (k : ℕ) → k ≡ length v
             → Collects b (collect f n room) m (Handout.Handed (record { 0 = k }) (x .handover)) out out′
         unfolding replied written
         collected-0 h out out′ q k j =
@@ -175,12 +175,3 @@ shown-headed f n w e = yes-cond w e
 pub shown-bare : (f : Form) (n : ℕ) (w : List ℕ) → bears f n ≡ false → shown f n w ≡ w
 unfolding shown
 shown-bare f n w e = no-cond (word 0xFF n ∷ w) e
-
-pub bare-written : (out w : List ℕ) → putIn out 0 w ≡ w ++ drop (length w) out
-unfolding putIn
-bare-written out w = rw (zero-add (length w))
-
-pub headed-written : (out w : List ℕ) (h : ℕ) → 1 ≤ length out → putIn (set out 0 h) 1 w ≡ (h ∷ w) ++ drop (length (h ∷ w)) out
-unfolding putIn
-headed-written [] w h l = absurd (omega arith)
-headed-written (o ∷ out) w h l = let e : 1 + length w ≡ suc (length w) = omega arith in rw e refl

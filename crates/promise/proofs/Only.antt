@@ -23,7 +23,7 @@ use Rattle.state.specs.declared.State.{State}
 use Rattle.state.proofs.Lists.{both, below-or}
 use Rattle.state.proofs.Read.{one-content}
 use Rattle.promise.specs.Obeyed as O
-use Rattle.promise.specs.Obeyed.{spoken, turned, Does, Obeyed}
+use Rattle.promise.specs.Obeyed.{saidOf, isRefusal, Does, Obeyed}
 use Rattle.promise.specs.declared.Reply.{Reply}
 use Rattle.promise.specs.declared.Handout.{Handout}
 use Rattle.promise.proofs.Parts.{Parts, parts}
@@ -97,16 +97,16 @@ plaque-same b p q f g e =
     let u = and-true (eqb (length (p .id)) 8) _ f in
     let v = and-true (eqb (length (q .id)) 8) _ g in
     let l : length (p .id) ≡ length (q .id) = eqb-true _ _ (u .0) ∙ sym (eqb-true _ _ (v .0)) in
-    go (p .present) refl (q .present) refl (u .1) (v .1) l e
+    by-presence (p .present) refl (q .present) refl (u .1) (v .1) l e
   where
-    go : (s : Bool) → p .present ≡ s → (t : Bool) → q .present ≡ t
+    by-presence : (s : Bool) → p .present ≡ s → (t : Bool) → q .present ≡ t
         → cond s (within 1 (b .region) (p .length .0)) (eqb (p .length .0) 0 && zeros (p .id)) ≡ true
         → cond t (within 1 (b .region) (q .length .0)) (eqb (q .length .0) 0 && zeros (q .id)) ≡ true → length (p .id) ≡ length (q .id)
         → cond s (plaque (p .id) (p .length .0)) empty ≡ cond t (plaque (q .id) (q .length .0)) empty → p ≡ q
-    go true a true c x y l e = plaque-by (a ∙ sym c) (cc) (cc)
-    go true a false c x y l e = clash (cc)
-    go false a true c x y l e = clash (cc)
-    go false a false c x y l e =
+    by-presence true a true c x y l e = plaque-by (a ∙ sym c) (cc) (cc)
+    by-presence true a false c x y l e = clash (cc)
+    by-presence false a true c x y l e = clash (cc)
+    by-presence false a false c x y l e =
         let u = and-true (eqb (p .length .0) 0) _ x in
         let v = and-true (eqb (q .length .0) 0) _ y in
         plaque-by (a ∙ sym c) (zeros-same (p .id) (q .id) (u .1) (v .1) l) (eqb-true _ _ (u .0) ∙ sym (eqb-true _ _ (v .0)))
@@ -117,15 +117,15 @@ report-same p q f g e =
     let u = and-true (eqb (length (p .id)) 8) _ f in
     let v = and-true (eqb (length (q .id)) 8) _ g in
     let l : length (p .id) ≡ length (q .id) = eqb-true _ _ (u .0) ∙ sym (eqb-true _ _ (v .0)) in
-    go (p .kept) refl (q .kept) refl (u .1) (v .1) l e
+    by-kept (p .kept) refl (q .kept) refl (u .1) (v .1) l e
   where
-    go : (s : Bool) → p .kept ≡ s → (t : Bool) → q .kept ≡ t → cond s true (zeros (p .id) && eqb (p .clock) 0) ≡ true
+    by-kept : (s : Bool) → p .kept ≡ s → (t : Bool) → q .kept ≡ t → cond s true (zeros (p .id) && eqb (p .clock) 0) ≡ true
         → cond t true (zeros (q .id) && eqb (q .clock) 0) ≡ true → length (p .id) ≡ length (q .id)
         → cond s (last (p .id) (p .clock)) never ≡ cond t (last (q .id) (q .clock)) never → p ≡ q
-    go true a true c x y l e = report-by (a ∙ sym c) (cc) (cc)
-    go true a false c x y l e = clash (cc)
-    go false a true c x y l e = clash (cc)
-    go false a false c x y l e =
+    by-kept true a true c x y l e = report-by (a ∙ sym c) (cc) (cc)
+    by-kept true a false c x y l e = clash (cc)
+    by-kept false a true c x y l e = clash (cc)
+    by-kept false a false c x y l e =
         let u = and-true (zeros (p .id)) _ x in
         let v = and-true (zeros (q .id)) _ y in
         report-by (a ∙ sym c) (zeros-same (p .id) (q .id) (u .0) (v .0) l) (eqb-true _ _ (u .1) ∙ sym (eqb-true _ _ (v .1)))
@@ -137,12 +137,12 @@ record SameMode (r s : D.Reading) (p q : T.Report) : Type 0 where
 mode-same : (b : Bench) (r s : D.Reading) (p q : T.Report) → readingOk b r (p .kept) ≡ true → readingOk b s (q .kept) ≡ true
     → modeOf r p ≡ modeOf s q → SameMode r s p q
 unfolding modeOf readingOk reportOf
-mode-same b r s p q f g e = go (eqb (r .size .0) 0) refl (eqb (s .size .0) 0) refl f g e
+mode-same b r s p q f g e = by-size (eqb (r .size .0) 0) refl (eqb (s .size .0) 0) refl f g e
   where
     unkept : (p q : T.Report) → not (p .kept) ≡ true → not (q .kept) ≡ true → reportOf p ≡ reportOf q
     unkept p q x y = rw (not-true (p .kept) x, not-true (q .kept) y)
 
-    go : (t : Bool) → eqb (r .size .0) 0 ≡ t → (u : Bool) → eqb (s .size .0) 0 ≡ u
+    by-size : (t : Bool) → eqb (r .size .0) 0 ≡ t → (u : Bool) → eqb (s .size .0) 0 ≡ u
         → cond t (eqb (r .start) 0 && (eqb (r .delay) 0 && not (p .kept)))
         (leb (r .size .0) 255 && (leb (r .start + r .size .0) (b .region) && leb (r .delay) 60)) ≡ true
         → cond u (eqb (s .start) 0 && (eqb (s .delay) 0 && not (q .kept)))
@@ -150,7 +150,7 @@ mode-same b r s p q f g e = go (eqb (r .size .0) 0) refl (eqb (s .size .0) 0) re
         → cond t M.off (on (r .start) (r .size .0) (r .delay) (reportOf p)) ≡ cond u M.off
         (on (s .start) (s .size .0) (s .delay) (reportOf q))
         → SameMode r s p q
-    go true a true c x y e =
+    by-size true a true c x y e =
         let x₁ = and-true (eqb (r .start) 0) _ x in
         let y₁ = and-true (eqb (s .start) 0) _ y in
         let x₂ = and-true (eqb (r .delay) 0) _ (x₁ .1) in
@@ -160,9 +160,9 @@ mode-same b r s p q f g e = go (eqb (r .size .0) 0) refl (eqb (s .size .0) 0) re
               (eqb-true _ _ (x₂ .0) ∙ sym (eqb-true _ _ (y₂ .0)));
           report = unkept p q (x₂ .1) (y₂ .1);
         }
-    go true a false c x y e = clash (cc)
-    go false a true c x y e = clash (cc)
-    go false a false c x y e = record { reading = reading-by (cc) (cc) (cc); report = cc }
+    by-size true a false c x y e = clash (cc)
+    by-size false a true c x y e = clash (cc)
+    by-size false a false c x y e = record { reading = reading-by (cc) (cc) (cc); report = cc }
 
 reader-same : (b : Bench) (x y : Reader) → ReaderParts b x → ReaderParts b y → fieldOf (x .plaque) ≡ fieldOf (y .plaque)
     → modeOf (x .reading) (x .report) ≡ modeOf (y .reading) (y .report) → x ≡ y
@@ -205,13 +205,13 @@ record Numbered (b : Bench) (i : ℕ) : Type 0 where
   slot : nodeSlot b node ≡ i
 
 index-node : (b : Bench) → Sound b → (i : ℕ) → i < b .readers + 1 → Numbered b i
-index-node b ok i h = go (below-or i (b .readers))
+index-node b ok i h = by-place (below-or i (b .readers))
   where
-    go : (i < b .readers) ⊎ (b .readers ≤ i) → Numbered b i
-    go (inl l) =
+    by-place : (i < b .readers) ⊎ (b .readers ≤ i) → Numbered b i
+    by-place (inl l) =
         let r = index-reader b i l in
         record { node = i + 1; is = reader-node b (i + 1) r; slot = reader-slot b ok (i + 1) r ∙ omega arith }
-    go (inr l) = record { node = hub; is = node-hub b; slot = omega arith }
+    by-place (inr l) = record { node = hub; is = node-hub b; slot = omega arith }
 
 module _ (b : Bench) (ok : Sound b) (m n : Machine) (p : Parts b m) (q : Parts b n) (e : meaning b m ≡ meaning b n) where
   region-each : (k : ℕ) → regionOf b (m .memory) k ≡ regionOf b (n .memory) k
@@ -258,12 +258,12 @@ module _ (b : Bench) (ok : Sound b) (m n : Machine) (p : Parts b m) (q : Parts b
 
 module _ (b : Bench) (ok : Sound b) where
   pub only-does : (o : Outcome) (m : Machine) (s₁ s₂ : Said) (m₁ m₂ : Machine) → Does b o m s₁ m₁ → Does b o m s₂ m₂ → (s₁ ≡ s₂) × (m₁ ≡ m₂)
-  only-does o m s₁ s₂ m₁ m₂ p q = let e : s₁ ≡ s₂ = p .says ∙ sym (q .says) in (e, go (turned s₁) refl e)
+  only-does o m s₁ s₂ m₁ m₂ p q = let e : s₁ ≡ s₂ = p .says ∙ sym (q .says) in (e, by-said (isRefusal s₁) refl e)
     where
-      go : (t : Bool) → turned s₁ ≡ t → s₁ ≡ s₂ → m₁ ≡ m₂
-      go true f e = p .refusal f ∙ sym (q .refusal (ap turned (sym e) ∙ f))
-      go false f e =
-          let h : turned s₂ ≡ false = ap turned (sym e) ∙ f in
+      by-said : (t : Bool) → isRefusal s₁ ≡ t → s₁ ≡ s₂ → m₁ ≡ m₂
+      by-said true f e = p .refusal f ∙ sym (q .refusal (ap isRefusal (sym e) ∙ f))
+      by-said false f e =
+          let h : isRefusal s₂ ≡ false = ap isRefusal (sym e) ∙ f in
           same-means b ok m₁ m₂ (parts b m₁ (p .sound f)) (parts b m₂ (q .sound h)) (p .means f ∙ sym (q .means h))
 
   pub only : (c : Call) (m : Machine) (s₁ s₂ : Said) (m₁ m₂ : Machine) → Obeyed b c m s₁ m₁ → Obeyed b c m s₂ m₂ → (s₁ ≡ s₂) × (m₁ ≡ m₂)
@@ -277,17 +277,17 @@ module _ (b : Bench) (ok : Sound b) where
   unspoken (answered (handed ws h)) = Reply.Done
   unspoken queued = Reply.Queued
 
-  back : (r : Reply) → unspoken (spoken r) ≡ r
-  unfolding spoken unspoken
+  back : (r : Reply) → unspoken (saidOf r) ≡ r
+  unfolding saidOf unspoken
   back (Reply.Refused k) = refl
   back Reply.Done = refl
   back Reply.Quiet = refl
   back Reply.Queued = refl
 
-  pub only-reply : (c : Call) (m : Machine) (r₁ r₂ : Reply) (m₁ m₂ : Machine) → Obeyed b c m (spoken r₁) m₁ → Obeyed b c m (spoken r₂) m₂
+  pub only-reply : (c : Call) (m : Machine) (r₁ r₂ : Reply) (m₁ m₂ : Machine) → Obeyed b c m (saidOf r₁) m₁ → Obeyed b c m (saidOf r₂) m₂
       → (r₁ ≡ r₂) × (m₁ ≡ m₂)
   only-reply c m r₁ r₂ m₁ m₂ p q =
-      let o = only c m (spoken r₁) (spoken r₂) m₁ m₂ p q in (sym (back r₁) ∙ ap unspoken (o .0) ∙ back r₂, o .1)
+      let o = only c m (saidOf r₁) (saidOf r₂) m₁ m₂ p q in (sym (back r₁) ∙ ap unspoken (o .0) ∙ back r₂, o .1)
 
   -- collect: one reply, one content of the lent output
   pub only-collect : (c : Call) (m : Machine) (r₁ r₂ : Handout) (out o₁ o₂ : List ℕ) → O.Collects b c m r₁ out o₁ → O.Collects b c m r₂ out

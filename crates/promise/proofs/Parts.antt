@@ -60,12 +60,12 @@ module _ (b : Bench) (m : Machine) where
   unfit-0 e f = pass-if 1 _ (ap not e) ∙ none 2 (ap not f)
 
   pub unfit-low : unfit b m ≤ 2
-  unfit-low = go (lengths b m) refl (consistent b m) refl
+  unfit-low = by-parts (lengths b m) refl (consistent b m) refl
     where
-      go : (t : Bool) → lengths b m ≡ t → (u : Bool) → consistent b m ≡ u → unfit b m ≤ 2
-      go false e u f = omega (arith, unfit-1 e)
-      go true e false f = omega (arith, unfit-2 e f)
-      go true e true f = omega (arith, unfit-0 e f)
+      by-parts : (t : Bool) → lengths b m ≡ t → (u : Bool) → consistent b m ≡ u → unfit b m ≤ 2
+      by-parts false e u f = omega (arith, unfit-1 e)
+      by-parts true e false f = omega (arith, unfit-2 e f)
+      by-parts true e true f = omega (arith, unfit-0 e f)
 
   pub fit : Parts b m → unfit b m ≡ 0
   unfolding lengths consistent arrays

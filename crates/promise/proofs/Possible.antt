@@ -41,22 +41,22 @@ use Rattle.lists.specs.Room.{roomFor}
 use Rattle.state.proofs.Lists.{both}
 use Rattle.store.specs.Changes.{Sound}
 use Rattle.store.proofs.Promised as Lists
-use Rattle.promise.specs.Obeyed.{turned, Does, Obeyed}
-use Rattle.promise.specs.Runs.{Heard, Chain, calls}
+use Rattle.promise.specs.Obeyed.{isRefusal, Does, Obeyed}
+use Rattle.promise.specs.Runs.{Exchange, Chain, calls}
 use Rattle.promise.proofs.Parts.{parts, Means}
 use Rattle.promise.proofs.Tables.{node-inside, node-hub, reader-node, reader-slot}
 use Rattle.promise.proofs.Regions.{untouched, region-paste, pasted}
 use Rattle.promise.proofs.Readers.{reader-is, field-is, mode-is, reader-in-order, reader-changed, reader-parts, id-long, left-ok}
 use Rattle.promise.proofs.Readers.{plaque-bytes, reading-range, withPlaque, withReading, stopped-ok, started-ok, reported-ok}
 use Rattle.promise.proofs.Readers.{reported-means}
-use Rattle.promise.proofs.Nodes.{name-changed}
+use Rattle.promise.proofs.Nodes.{name-changed, nodes-swept}
 use Rattle.promise.proofs.Promises.{unlent, does-refused, does-said, by-step}
 use Rattle.promise.proofs.Steps.{heeded-by, refused-by, same-reader, same-desk}
-use Rattle.promise.proofs.Answers.{reader-index, hub-index, answer-formed, not-found-formed}
+use Rattle.promise.proofs.Formed.{reader-index, hub-index, answer-formed, not-found-formed}
 use Rattle.promise.proofs.Dues.{due-13, due-queued, room-due, joins}
 use Rattle.promise.proofs.Plaques.{arrived-changed}
 use Rattle.promise.proofs.Oldest.{pending-long, takes, taken-changed}
-use Rattle.promise.proofs.Sweeps.{cleared, restarted}
+use Rattle.store.proofs.Changed.{clear-empties, reset-empties}
 use Rattle.promise.proofs.Accepted.{rowFor, row-regular, Accepted, accepted, used, reads}
 
 -- some machine that means a gateway
@@ -104,13 +104,13 @@ module _ (m : Machine) (ok : unfit full m ≡ 0) where
 
   can-due : (n : ℕ) (h : Gateway) (w : List ℕ) → isNode full n ≡ true → wellFormed full (nodeAt full (nodeSlot full n)) w ≡ true → Some h
       → Can (settled full g (Try.due n h w))
-  can-due n h w is formed s = go (fits full n (join n w h)) refl
+  can-due n h w is formed s = by-room (fits full n (join n w h)) refl
     where
-      go : (t : Bool) → fits full n (join n w h) ≡ t → Can (settled full g (Try.due n h w))
-      go true e =
+      by-room : (t : Bool) → fits full n (join n w h) ≡ t → Can (settled full g (Try.due n h w))
+      by-room true e =
           let q = joined-some (s .there) h (s .is) n is w formed e in
           record { said = queued; after = q .there; does = due-queued full m n h w e (q .there) (q .is) }
-      go false e = record { said = refused 13; after = m; does = due-13 full m n h w e m refl }
+      by-room false e = record { said = refused 13; after = m; does = due-13 full m n h w e m refl }
 
   -- what a local outcome at node n needs: a machine with what is changed, and an answer that is well formed
   Good : {A : Type 0} → (A → Gateway → Gateway) → ℕ → Local A → Type 0
@@ -121,7 +121,7 @@ module _ (m : Machine) (ok : unfit full m ≡ 0) where
 
   module _ {A : Type 0} (into : A → Gateway → Gateway) (n : ℕ) where
     can-local : isNode full n ≡ true → (l : Local A) → Good into n l → Can (settled full g (lifted into n g l))
-    unfolding Good lifted settled turned
+    unfolding Good lifted settled isRefusal
     can-local is (Local.refuse k) h = record { said = refused k; after = m; does = does-refused full m k }
     can-local is (Local.give r a) h = record { said = answered r; after = h .there; does = does-said full m _ _ _ refl (h .is) }
     can-local is Local.acked h = record { said = answered done; after = h .there; does = does-said full m _ _ _ refl (h .is) }
@@ -135,14 +135,14 @@ module _ (m : Machine) (ok : unfit full m ≡ 0) where
 
     good-acknowledging : isNode full n ≡ true → (h : ℕ) → Good into n (acknowledging (g .nodes n .handover) h (g .nodes n .pending))
     unfolding acknowledging Good
-    good-acknowledging is h = go (g .nodes n .pending) refl
+    good-acknowledging is h = by-pending (g .nodes n .pending) refl
       where
         y : Node
         y = getD (m .state .nodes) (nodeSlot full n) freshNode
 
-        go : (ws : List (List ℕ)) → g .nodes n .pending ≡ ws → Good into n (acknowledging (g .nodes n .handover) h ws)
-        go [] e = tt
-        go (w ∷ ws) e =
+        by-pending : (ws : List (List ℕ)) → g .nodes n .pending ≡ ws → Good into n (acknowledging (g .nodes n .handover) h ws)
+        by-pending [] e = tt
+        by-pending (w ∷ ws) e =
             let some : 0 < y .answers = omega (arith, pending-long full m ok n (nodeSlot full n) is refl y refl, ap length e) in
             let a = takes full m ok n (nodeSlot full n) is refl y refl some .after in
             cond-all (Good into n) (eqb h (g .nodes n .handover)) _ _
@@ -172,12 +172,12 @@ module _ (m : Machine) (ok : unfit full m ≡ 0) where
     changed : (y : Reader) → readerOk full y ≡ true → (a : M.Reader) → readerOf y (regionOf full (m .memory) n) ≡ a → Some (setReader n a g)
     changed y o a e = record { there = _; is = reader-changed full m n is y (m .memory) (untouched full n (m .memory)) ok o a e }
 
-    written : (start : ℕ) (bytes : List ℕ) (k : ℕ) → start + k ≤ 1024 → k ≤ length bytes
+    written : (start : ℕ) (bytes : List ℕ) (k : ℕ) → start + k ≤ full .region → k ≤ length bytes
         → Some (setReader n (setRegion (paste (r .region) start bytes k) r) g)
     unfolding readerOf
     written start bytes k h has =
         let p = parts full m ok in
-        let memory′ : List ℕ = paste (m .memory) ((n - 1) * 1024 + start) bytes k in
+        let memory′ : List ℕ = paste (m .memory) ((n - 1) * full .region + start) bytes k in
         let own : readerOf x (regionOf full memory′ n) ≡ setRegion (paste (r .region) start bytes k) r =
         ap (readerOf x) (region-paste full n (m .memory) is (p .memory) start bytes k h has)
         ∙ ap (λ (y : M.Reader). setRegion (paste (y .region) start bytes k) y) (sym same) in
@@ -191,15 +191,16 @@ module _ (m : Machine) (ok : unfit full m ≡ 0) where
     -- a plaque that is there is one
     Sized : Field → Type 0
     Sized empty = Unit
-    Sized (plaque id len) = (length id ≡ 8) × (len ≤ 1024)
+    Sized (plaque id len) = (length id ≡ 8) × (len ≤ full .region)
 
     sized : Sized (r .field)
     unfolding fieldOf Sized
-    sized = rw (field-is full m n is x refl) (go (x .plaque .present) refl)
+    sized = rw (field-is full m n is x refl) (by-presence (x .plaque .present) refl)
       where
-        go : (u : Bool) → x .plaque .present ≡ u → Sized (cond u (plaque (x .plaque .id) (x .plaque .length .0)) empty)
-        go true e = let p = reader-parts full x orderly .plaque in (id-long full (x .plaque) p, plaque-bytes full (x .plaque) p e .1)
-        go false e = tt
+        by-presence : (u : Bool) → x .plaque .present ≡ u → Sized (cond u (plaque (x .plaque .id) (x .plaque .length .0)) empty)
+        by-presence true e = let p = reader-parts full x orderly .plaque in
+            (id-long full (x .plaque) p, plaque-bytes full (x .plaque) p e .1)
+        by-presence false e = tt
 
     good-left : (f : Field) → Well (left r f)
     unfolding left readerOf fieldOf Good
@@ -223,11 +224,11 @@ module _ (m : Machine) (ok : unfit full m ≡ 0) where
       module _ (c : Command) (bs : List ℕ) where
         good-ranged : (len : ℕ) (l : Local M.Reader) → (c .start + c .size ≤ len → Well l) → Well (ranged c len l)
         unfolding ranged Good
-        good-ranged len l h = go (leb (c .start + c .size) len) refl
+        good-ranged len l h = by-end (leb (c .start + c .size) len) refl
           where
-            go : (u : Bool) → leb (c .start + c .size) len ≡ u → Well (cond u l (Local.refuse 12))
-            go true e = h (leb-true _ _ e)
-            go false e = tt
+            by-end : (u : Bool) → leb (c .start + c .size) len ≡ u → Well (cond u l (Local.refuse 12))
+            by-end true e = h (leb-true _ _ e)
+            by-end false e = tt
 
         good-tagged : (k : OnPlaque) → Accepted full (K.Plaque k) c → length bs ≡ carries (rowFor full (K.Plaque k) .load) (c .size)
             → (f : Field) → Sized f → Well (tagged n v t k c bs r f)
@@ -249,12 +250,12 @@ module _ (m : Machine) (ok : unfit full m ≡ 0) where
         -- ---- 0D
         good-started : Accepted full K.Continuous c → Some (setReader n (setMode (started c) r) g)
         unfolding started readerOf modeOf reportOf
-        good-started a = go (eqb (c .size) 0) refl
+        good-started a = by-size (eqb (c .size) 0) refl
           where
-            go : (u : Bool) → eqb (c .size) 0 ≡ u
+            by-size : (u : Bool) → eqb (c .size) 0 ≡ u
                 → Some (setReader n (setMode (cond u M.off (on (c .start) (c .size) (c .word4) never)) r) g)
-            go true e = stopped
-            go false e =
+            by-size true e = stopped
+            by-size false e =
                 let d = reads full c a in
                 let y : Reading = record { start = c .start; size = record { 0 = c .size }; delay = c .word4 } in
                 changed (withReading x y noReport) (started-ok full x orderly y e (d .size) (d .range) (d .delay)) _
@@ -272,14 +273,14 @@ module _ (m : Machine) (ok : unfit full m ≡ 0) where
       good-looked : (clock : ℕ) → Well (looked n v t clock r (r .field) (r .mode))
       unfolding looked fieldOf modeOf Good
       good-looked clock =
-          rw (field-is full m n is x refl, mode-is full m n is x refl) (go (x .plaque .present) (eqb (x .reading .size .0) 0) refl)
+          rw (field-is full m n is x refl, mode-is full m n is x refl) (by-mode (x .plaque .present) (eqb (x .reading .size .0) 0) refl)
         where
-          go : (s o : Bool) → eqb (x .reading .size .0) 0 ≡ o
+          by-mode : (s o : Bool) → eqb (x .reading .size .0) 0 ≡ o
               → Well (looked n v t clock r (cond s (plaque (x .plaque .id) (x .plaque .length .0)) empty)
               (cond o M.off (on (x .reading .start) (x .reading .size .0) (x .reading .delay) (reportOf (x .report)))))
-          go false o f = unchanged
-          go true true f = unchanged
-          go true false f =
+          by-mode false o f = unchanged
+          by-mode true true f = unchanged
+          by-mode true false f =
               let q = reading-range full (x .reading) (x .report .kept) (reader-parts full x orderly .reading) f in
               let short = part-short (x .reading .start) (x .reading .start + x .reading .size .0) (r .region) in
               cond-all Well (repeats (x .plaque .id) clock (x .reading .delay) (reportOf (x .report))) _ _ unchanged
@@ -297,7 +298,7 @@ module _ (m : Machine) (ok : unfit full m ≡ 0) where
   module _ (t : Stamp) (good : isStamp t ≡ true) where
     formed-hub : (y : M.Node) (echo : ℕ) (s : List ℕ) → echo < 256 → length s ≤ 255
         → wellFormed full (nodeAt full (nodeSlot full hub)) (answer hub y t echo s) ≡ true
-    formed-hub y echo s h l = answer-formed full full-sound hub 16 (hub-index full) y t (node-hub full) good _ echo s refl h l
+    formed-hub y echo s h l = answer-formed full full-sound hub (full .readers) (hub-index full) y t (node-hub full) good _ echo s refl h l
 
     titled : (s : List ℕ) → length s ≤ 64 → Some (fromDesk (idle s) g)
     unfolding fromDesk swept nameOk
@@ -326,11 +327,13 @@ module _ (m : Machine) (ok : unfit full m ≡ 0) where
     good-ruled SetName bs h = (formed-hub (g .nodes hub) 0x21 [] (lit< tt) (lit≤ tt), titled bs h)
     good-ruled Initialise bs h = (formed-hub (g .nodes hub) 0x60 [] (lit< tt) (lit≤ tt), titled [] (lit≤ tt))
     good-ruled ResetGateway bs h =
-        let a = Lists.resets full (m .store) (m .state) lists-ok _ (sym (parts full m ok .eachNode)) in
-        (formed-hub (swept resetting (g .nodes hub)) 0x61 [] (lit< tt) (lit≤ tt), record { there = _; is = restarted full m ok _ _ a })
+        let a = Lists.empties full (m .store) (m .state) lists-ok _ (sym (parts full m ok .eachNode)) reset-empties in
+        let e = nodes-swept full m (parts full m ok) resetting (reset-empties .blank) _ _ a in
+        (formed-hub (swept resetting (g .nodes hub)) 0x61 [] (lit< tt) (lit≤ tt), record { there = _; is = e })
     good-ruled Clear bs h =
-        let a = Lists.clears full (m .store) (m .state) lists-ok _ (sym (parts full m ok .eachNode)) in
-        (formed-hub (swept clearing (g .nodes hub)) 0x79 [] (lit< tt) (lit≤ tt), record { there = _; is = cleared full m ok _ _ a })
+        let a = Lists.empties full (m .store) (m .state) lists-ok _ (sym (parts full m ok .eachNode)) clear-empties in
+        let e = nodes-swept full m (parts full m ok) clearing (clear-empties .blank) _ _ a in
+        (formed-hub (swept clearing (g .nodes hub)) 0x79 [] (lit< tt) (lit≤ tt), record { there = _; is = e })
 
   -- ---- the calls
   module _ (t : Stamp) (f : Form) (ws : List ℕ) (e : judged full (command t f ws) ≡ 0) where
@@ -421,7 +424,7 @@ possible c m = elim (ℕ-discrete (unfit full m) 0) [
 ]
 
 -- .. so any calls, one after the other, are those of a chain
-pub chain-exists : (cs : List Call) (m : Machine) → (hs : List Heard) × (calls hs ≡ cs) × Chain full m hs
+pub chain-exists : (cs : List Call) (m : Machine) → (hs : List Exchange) × (calls hs ≡ cs) × Chain full m hs
 unfolding Chain
 chain-exists [] m = ([], refl, tt)
 chain-exists (c ∷ cs) m =

@@ -4,7 +4,7 @@ use Rattle.units.proofs.Common.{sym, _∙_, _≡_, refl, false, true≢false, �
 use Rattle.meaning.proofs.Terms.{Bench, hub, Reader, Gateway, setReader, Call, Said, refused, answered, Result, Outcome, Local, Desk}
 use Rattle.meaning.proofs.Terms.{fromDesk, lifted, settled, step}
 use Rattle.state.proofs.Terms.{Machine, meaning, unfit}
-use Rattle.promise.specs.Obeyed.{turned, Does, expected, Obeyed}
+use Rattle.promise.specs.Obeyed.{isRefusal, Does, expected, Obeyed}
 use Rattle.promise.proofs.Parts.{Means}
 
 abbrev pub saying : Said → Gateway → Outcome
@@ -13,10 +13,10 @@ saying s g = record { said = s; next = g }
 module _ (b : Bench) (m : Machine) where
   -- ---- an outcome of the meaning
   pub does-refused : (k : ℕ) → Does b (saying (refused k) (meaning b m)) m (refused k) m
-  unfolding turned
+  unfolding isRefusal
   does-refused k = record { says = refl; refusal = λ _. refl; sound = λ f. absurd (true≢false f); means = λ f. absurd (true≢false f) }
 
-  pub does-said : (s : Said) (g : Gateway) (m′ : Machine) → turned s ≡ false → Means b m′ g → Does b (saying s g) m s m′
+  pub does-said : (s : Said) (g : Gateway) (m′ : Machine) → isRefusal s ≡ false → Means b m′ g → Does b (saying s g) m s m′
   does-said s g m′ t h = record {
     says = refl;
     refusal = λ f. absurd (true≢false (sym f ∙ t));
@@ -38,8 +38,8 @@ module _ (b : Bench) (m : Machine) where
     pub turning : (k : ℕ) → step b (meaning b m) c ≡ saying (refused k) (meaning b m) → Obeyed b c m (refused k) m
     turning k e = by-step e (does-refused k)
 
-    pub obeying : (s : Said) (g : Gateway) (m′ : Machine) → turned s ≡ false → step b (meaning b m) c ≡ saying s g → Means b m′ g → Obeyed b
-        c m s m′
+    pub obeying : (s : Said) (g : Gateway) (m′ : Machine) → isRefusal s ≡ false → step b (meaning b m) c ≡ saying s g → Means b m′ g
+        → Obeyed b c m s m′
     obeying s g m′ t e h = by-step e (does-said s g m′ t h)
 
 -- ---- what its own node makes of a call: l, at node n, where `into` puts the changed part back
@@ -61,5 +61,5 @@ module _ {A : Type 0} (b : Bench) (m : Machine) (into : A → Gateway → Gatewa
 
   pub giving : {r : Result} {a : A} → l ≡ Local.give r a → (m′ : Machine) → Means b m′ (into a (meaning b m)) → Locally b m into n l
       (answered r) m′
-  unfolding lifted settled turned
+  unfolding lifted settled isRefusal
   giving {r} {a} e m′ h = rw e (does-said b m (answered r) (into a (meaning b m)) m′ refl h)

@@ -48,13 +48,13 @@ put-readers : (b : Bench) (memory memory′ : List ℕ) (n : ℕ) (x : Reader) (
     → readerOf (put n x f k) (regionOf b memory′ k) ≡ put n (readerOf x (regionOf b memory′ n)) (λ j. readerOf (f j) (regionOf b memory j))
     k
 unfolding put
-put-readers b memory memory′ n x f h k = go (eqb k n) refl
+put-readers b memory memory′ n x f h k = by-number (eqb k n) refl
   where
-    go : (t : Bool) → eqb k n ≡ t
+    by-number : (t : Bool) → eqb k n ≡ t
         → readerOf (cond t x (f k)) (regionOf b memory′ k) ≡ cond t (readerOf x (regionOf b memory′ n))
         (readerOf (f k) (regionOf b memory k))
-    go true e = rw (eqb-true k n e)
-    go false e = rw (h .others k (eqb-false k n e))
+    by-number true e = rw (eqb-true k n e)
+    by-number false e = rw (h .others k (eqb-false k n e))
 
 module _ (b : Bench) (m : Machine) (n : ℕ) (is : isReader b n ≡ true) (x : Reader) (memory′ : List ℕ) (h : Within b n (m .memory) memory′)
   where

@@ -95,12 +95,12 @@ row-end zero r h = absurd (omega arith)
 row-end (suc n) r h = let e : suc n - 1 ≡ n = omega arith in rw e (omega arith)
 
 apart : (j n : ℕ) → (j ≡ n → ⊥) → (j < n) ⊎ (n < j)
-apart j n d = go (below-or j n) (below-or n j)
+apart j n d = either (below-or j n) (below-or n j)
   where
-    go : (j < n) ⊎ (n ≤ j) → (n < j) ⊎ (j ≤ n) → (j < n) ⊎ (n < j)
-    go (inl p) q = inl p
-    go (inr p) (inl q) = inr q
-    go (inr p) (inr q) = absurd (d (omega arith))
+    either : (j < n) ⊎ (n ≤ j) → (n < j) ⊎ (j ≤ n) → (j < n) ⊎ (n < j)
+    either (inl p) q = inl p
+    either (inr p) (inl q) = inr q
+    either (inr p) (inr q) = absurd (d (omega arith))
 
 -- memory′ is memory but for the region of reader n
 pub record Within (b : Bench) (n : ℕ) (memory memory′ : List ℕ) : Type 0 where
@@ -135,11 +135,11 @@ module _ (b : Bench) (n : ℕ) (memory : List ℕ) (is : isReader b n ≡ true) 
     unfolding regionOf
     region-other j d =
         part-other memory ((n - 1) * b .region) (b .region) start s k (row .1) fits has ((j - 1) * b .region) (j * b .region)
-        (go (apart j n d))
+        (beside (apart j n d))
       where
-        go : (j < n) ⊎ (n < j) → (j * b .region ≤ (n - 1) * b .region) ⊎ ((n - 1) * b .region + b .region ≤ (j - 1) * b .region)
-        go (inl h) = inl (mul-le-mul-right (b .region) (omega arith))
-        go (inr h) =
+        beside : (j < n) ⊎ (n < j) → (j * b .region ≤ (n - 1) * b .region) ⊎ ((n - 1) * b .region + b .region ≤ (j - 1) * b .region)
+        beside (inl h) = inl (mul-le-mul-right (b .region) (omega arith))
+        beside (inr h) =
             let q : n * b .region ≤ (j - 1) * b .region = mul-le-mul-right (b .region) (omega arith) in
             let e = row in inr (omega arith)
 

@@ -117,13 +117,13 @@ module _ (b : Bench) (ok : Sound b) (m : Machine) (fits : unfit b m ≡ 0) where
 
   fit-bounded : (n : ℕ) → held (meaning b m .nodes n) ≤ b .limit
   unfolding bounded meaning nodesOf seen added
-  fit-bounded n = go (isNode b n) refl
+  fit-bounded n = by-node (isNode b n) refl
     where
       p : Parts b m
       p = parts b m fits
 
-      go : (t : Bool) → isNode b n ≡ t → held (meaning b m .nodes n) ≤ b .limit
-      go true is =
+      by-node : (t : Bool) → isNode b n ≡ t → held (meaning b m .nodes n) ≤ b .limit
+      by-node true is =
           let hs : List ℕ = map held (nodesIn (m .store) (m .state .nodes)) in
           let l : length hs ≡ b .readers + 1 = length-map (nodesIn (m .store) (m .state .nodes)) held ∙ many b m p in
           let o = and-true (every (λ h. leb h (b .limit)) hs) _ limits in
@@ -131,7 +131,7 @@ module _ (b : Bench) (ok : Sound b) (m : Machine) (fits : unfit b m ≡ 0) where
           let k = every-get (λ h. leb h (b .limit)) hs i 0 (o .0) (node-inside b n (length hs) is l) in
           let e : held (meaning b m .nodes n) ≡ getD hs i 0 = cc (held-in b m n [] is p, helds-are b m n [] is p) in
           omega (arith, leb-true (getD hs i 0) (b .limit) k)
-      go false is = omega (arith, ap held (no-cond {b = plain} (getD (nodesIn (m .store) (m .state .nodes)) (nodeSlot b n) plain) is))
+      by-node false is = omega (arith, ap held (no-cond {b = plain} (getD (nodesIn (m .store) (m .state .nodes)) (nodeSlot b n) plain) is))
 
   pub fit-bounds : Bounds b (meaning b m)
   unfolding bounded meaning nodesOf

@@ -17,12 +17,12 @@ unfolding cuts past nodesIn fieldOf reportOf modeOf regionOf readerOf seen nodes
 meant = 0
 
 -- when it is consistent: its lists, then the rest
-unfoldable ordered : ℕ
+unfoldable laidOut : ℕ
 unfolding laid allLaid storeOf inLayout formed chargesOf bounded listed listsOk
-ordered = 0
+laidOut = 0
 
 unfoldable judged : ℕ
-unfolding ordered nodeOk plaqueOk readingOk reportOk readerOk nameOk arrays consistent lengths lent unfit
+unfolding laidOut nodeOk plaqueOk readingOk reportOk readerOk nameOk arrays consistent lengths lent unfit
 judged = 0
 
 pub sixteen-reached : map answer sixteen ≡ map refused (1 ∷ 2 ∷ 3 ∷ 4 ∷ 5 ∷ 6 ∷ 7 ∷ 8 ∷ 9 ∷ 10 ∷ 11 ∷ 12 ∷ 13 ∷ 14 ∷ 15 ∷ 16 ∷ [])

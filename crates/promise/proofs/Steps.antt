@@ -48,11 +48,11 @@ module _ (b : Bench) (m : Machine) (c : Call) (fit : unfit b m ≡ 0) where
 -- putting back what is there
 put-self : {A : Type 0} (n : ℕ) (f : ℕ → A) → put n (f n) f ≡ f
 unfolding put
-put-self n f = fun-ext (λ k. go k (eqb k n) refl)
+put-self n f = fun-ext (λ k. by-number k (eqb k n) refl)
   where
-    go : (k : ℕ) (t : Bool) → eqb k n ≡ t → cond t (f n) (f k) ≡ f k
-    go k true e = ap f (sym (eqb-true k n e))
-    go k false e = refl
+    by-number : (k : ℕ) (t : Bool) → eqb k n ≡ t → cond t (f n) (f k) ≡ f k
+    by-number k true e = ap f (sym (eqb-true k n e))
+    by-number k false e = refl
 
 pub same-reader : (g : Gateway) (n : ℕ) → setReader n (g .reader n) g ≡ g
 same-reader g n = ap (λ (f : ℕ → M.Reader). record { name = g .name; nodes = g .nodes; reader = f }) (put-self n (g .reader))
@@ -67,11 +67,11 @@ kept h g = h
 
 module _ (b : Bench) (g : Gateway) where
   by-node : (n : ℕ) → isNode b n ≡ true → (P : ℕ → Type 0) → (isReader b n ≡ true → P n) → (isReader b hub ≡ false → P hub) → P n
-  by-node n is P x y = go (isReader b n) refl
+  by-node n is P x y = by-reader (isReader b n) refl
     where
-      go : (t : Bool) → isReader b n ≡ t → P n
-      go true r = x r
-      go false r = let h = hub-named b n is r in subst P (sym h) (y (ap (isReader b) (sym h) ∙ r))
+      by-reader : (t : Bool) → isReader b n ≡ t → P n
+      by-reader true r = x r
+      by-reader false r = let h = hub-named b n is r in subst P (sym h) (y (ap (isReader b) (sym h) ∙ r))
 
   -- ---- acknowledge
   module _ (n h : ℕ) (is : isNode b n ≡ true) where
@@ -88,12 +88,12 @@ module _ (b : Bench) (g : Gateway) where
         alike : {A : Type 0} (into : A → Gateway → Gateway) (k : ℕ) (l : List (List ℕ))
             → settled b g (lifted into k g (acknowledging (g .nodes k .handover) h l)) ≡ relief k l
         alike into k [] = refl
-        alike into k (w ∷ ws) = go (eqb h (g .nodes k .handover))
+        alike into k (w ∷ ws) = by-handover (eqb h (g .nodes k .handover))
           where
-            go : (t : Bool) → settled b g (lifted into k g (cond t Local.acked (Local.refuse 15)))
+            by-handover : (t : Bool) → settled b g (lifted into k g (cond t Local.acked (Local.refuse 15)))
                 ≡ settled b g (lifted kept k g (cond t Local.acked (Local.refuse 15)))
-            go true = refl
-            go false = refl
+            by-handover true = refl
+            by-handover false = refl
 
     pub acknowledge-14 : g .nodes n .pending ≡ [] → step b g (acknowledge n h) ≡ saying (refused 14) g
     unfolding lifted settled acknowledging relief
@@ -126,15 +126,15 @@ module _ (b : Bench) (g : Gateway) where
         alike : {A : Type 0} (into : A → Gateway → Gateway) {a : A} → into a g ≡ g → (k : ℕ) (l : List (List ℕ))
             → settled b g (lifted into k g (collecting a f k room (g .nodes k .handover) l)) ≡ offer k l
         alike into e k [] = refl
-        alike into {a} e k (w ∷ ws) = go (leb (length (shown f k w)) room)
+        alike into {a} e k (w ∷ ws) = by-room (leb (length (shown f k w)) room)
           where
             h : Result
             h = handed (shown f k w) (g .nodes k .handover)
 
-            go : (t : Bool) → settled b g (lifted into k g (cond t (Local.give h a) (Local.refuse 16)))
+            by-room : (t : Bool) → settled b g (lifted into k g (cond t (Local.give h a) (Local.refuse 16)))
                 ≡ settled b g (lifted kept k g (cond t (Local.give h g) (Local.refuse 16)))
-            go true = ap (saying _) e
-            go false = refl
+            by-room true = ap (saying _) e
+            by-room false = refl
 
     pub collect-7 : isNode b n ≡ false → step b g (collect f n room) ≡ saying (refused 7) g
     unfolding judged asked
@@ -157,7 +157,7 @@ module _ (b : Bench) (g : Gateway) where
     -- collect changes nothing
     pub collect-keeps : (step b g (collect f n room)) .next ≡ g
     unfolding lifted settled collecting offer kept
-    collect-keeps = go (isNode b n) refl
+    collect-keeps = by-test (isNode b n) refl
       where
         list : (l : List (List ℕ)) → offer n l .next ≡ g
         list [] = refl
@@ -168,6 +168,6 @@ module _ (b : Bench) (g : Gateway) where
             each true = refl
             each false = refl
 
-        go : (t : Bool) → isNode b n ≡ t → (step b g (collect f n room)) .next ≡ g
-        go true p = ap (λ (o : Outcome). o .next) (collected p) ∙ list (g .nodes n .pending)
-        go false p = ap (λ (o : Outcome). o .next) (collect-7 p)
+        by-test : (t : Bool) → isNode b n ≡ t → (step b g (collect f n room)) .next ≡ g
+        by-test true p = ap (λ (o : Outcome). o .next) (collected p) ∙ list (g .nodes n .pending)
+        by-test false p = ap (λ (o : Outcome). o .next) (collect-7 p)

@@ -14,14 +14,14 @@ module _ {A : Type 0} (ok : ℕ → Bool) (slot : ℕ → ℕ) (d : A) (l : List
   module _ (n : ℕ) (x : A) (is : ok n ≡ true) (inside : slot n < length l) (inj : (m : ℕ) → ok m ≡ true → slot m ≡ slot n → m ≡ n) where
     set-at : (m : ℕ) → seen ok slot d (set l (slot n) x) m ≡ put n x (seen ok slot d l) m
     unfolding put seen
-    set-at m = go (eqb m n) refl (ok m) refl
+    set-at m = by-number (eqb m n) refl (ok m) refl
       where
-        go : (t : Bool) → eqb m n ≡ t → (u : Bool) → ok m ≡ u
+        by-number : (t : Bool) → eqb m n ≡ t → (u : Bool) → ok m ≡ u
             → cond u (getD (set l (slot n) x) (slot m) d) d ≡ cond t x (cond u (getD l (slot m) d) d)
-        go true e true f = rw (eqb-true m n e, getD-set-same l (slot n) x d inside)
-        go true e false f = absurd (true≢false (sym is ∙ ap ok (sym (eqb-true m n e)) ∙ f))
-        go false e true f = getD-set-other l (slot n) (slot m) x d (λ q. eqb-false m n e (inj m f q))
-        go false e false f = refl
+        by-number true e true f = rw (eqb-true m n e, getD-set-same l (slot n) x d inside)
+        by-number true e false f = absurd (true≢false (sym is ∙ ap ok (sym (eqb-true m n e)) ∙ f))
+        by-number false e true f = getD-set-other l (slot n) (slot m) x d (λ q. eqb-false m n e (inj m f q))
+        by-number false e false f = refl
 
     pub seen-set : seen ok slot d (set l (slot n) x) ≡ put n x (seen ok slot d l)
     seen-set = fun-ext set-at
@@ -29,11 +29,11 @@ module _ {A : Type 0} (ok : ℕ → Bool) (slot : ℕ → ℕ) (d : A) (l : List
   -- the same change at every node, where it leaves the default as it is
   pub seen-map : (f : A → A) → f d ≡ d → seen ok slot d (map f l) ≡ (λ n. f (seen ok slot d l n))
   unfolding seen
-  seen-map f e = fun-ext (λ n. go n (ok n))
+  seen-map f e = fun-ext (λ n. by-test n (ok n))
     where
-      go : (n : ℕ) (t : Bool) → cond t (getD (map f l) (slot n) d) d ≡ f (cond t (getD l (slot n) d) d)
-      go n true = ap (getD (map f l) (slot n)) (sym e) ∙ List·getD-map f l (slot n) d
-      go n false = sym e
+      by-test : (n : ℕ) (t : Bool) → cond t (getD (map f l) (slot n) d) d ≡ f (cond t (getD l (slot n) d) d)
+      by-test n true = ap (getD (map f l) (slot n)) (sym e) ∙ List·getD-map f l (slot n) d
+      by-test n false = sym e
 
 -- ---- the slots of readers and nodes
 pub reader-range : (b : Bench) (n : ℕ) → isReader b n ≡ true → (1 ≤ n) × (n ≤ b .readers)
@@ -43,26 +43,26 @@ pub reader-inj : (b : Bench) (m n : ℕ) → isReader b n ≡ true → isReader 
 reader-inj b m n p q e = omega (arith, reader-range b n p, reader-range b m q)
 
 pub node-inj : (b : Bench) (m n : ℕ) → isNode b n ≡ true → isNode b m ≡ true → nodeSlot b m ≡ nodeSlot b n → m ≡ n
-node-inj b m n p q e = go (eqb m hub) refl (eqb n hub) refl (isReader b m) refl (isReader b n) refl p q e
+node-inj b m n p q e = by-kinds (eqb m hub) refl (eqb n hub) refl (isReader b m) refl (isReader b n) refl p q e
   where
-    go : (s : Bool) → eqb m hub ≡ s → (t : Bool) → eqb n hub ≡ t → (u : Bool) → isReader b m ≡ u → (v : Bool) → isReader b n ≡ v
+    by-kinds : (s : Bool) → eqb m hub ≡ s → (t : Bool) → eqb n hub ≡ t → (u : Bool) → isReader b m ≡ u → (v : Bool) → isReader b n ≡ v
         → (v || t) ≡ true → (u || s) ≡ true → cond s (b .readers) (m - 1) ≡ cond t (b .readers) (n - 1) → m ≡ n
-    go true e1 true e2 u e3 v e4 p q e = omega (arith, eqb-true m hub e1, eqb-true n hub e2)
-    go true e1 false e2 u e3 true e4 p q e = absurd (omega (arith, reader-range b n e4))
-    go true e1 false e2 u e3 false e4 p q e = absurd (false≢true p)
-    go false e1 true e2 true e3 v e4 p q e = absurd (omega (arith, reader-range b m e3))
-    go false e1 true e2 false e3 v e4 p q e = absurd (false≢true q)
-    go false e1 false e2 true e3 true e4 p q e = omega (arith, reader-range b n e4, reader-range b m e3)
-    go false e1 false e2 true e3 false e4 p q e = absurd (false≢true p)
-    go false e1 false e2 false e3 v e4 p q e = absurd (false≢true q)
+    by-kinds true e1 true e2 u e3 v e4 p q e = omega (arith, eqb-true m hub e1, eqb-true n hub e2)
+    by-kinds true e1 false e2 u e3 true e4 p q e = absurd (omega (arith, reader-range b n e4))
+    by-kinds true e1 false e2 u e3 false e4 p q e = absurd (false≢true p)
+    by-kinds false e1 true e2 true e3 v e4 p q e = absurd (omega (arith, reader-range b m e3))
+    by-kinds false e1 true e2 false e3 v e4 p q e = absurd (false≢true q)
+    by-kinds false e1 false e2 true e3 true e4 p q e = omega (arith, reader-range b n e4, reader-range b m e3)
+    by-kinds false e1 false e2 true e3 false e4 p q e = absurd (false≢true p)
+    by-kinds false e1 false e2 false e3 v e4 p q e = absurd (false≢true q)
 
 pub node-inside : (b : Bench) (n k : ℕ) → isNode b n ≡ true → k ≡ b .readers + 1 → nodeSlot b n < k
-node-inside b n k p e = go (eqb n hub) (isReader b n) refl p
+node-inside b n k p e = by-kind (eqb n hub) (isReader b n) refl p
   where
-    go : (t u : Bool) → isReader b n ≡ u → (u || t) ≡ true → cond t (b .readers) (n - 1) < k
-    go true u f q = omega arith
-    go false true f q = omega (arith, reader-range b n f)
-    go false false f q = absurd (false≢true q)
+    by-kind : (t u : Bool) → isReader b n ≡ u → (u || t) ≡ true → cond t (b .readers) (n - 1) < k
+    by-kind true u f q = omega arith
+    by-kind false true f q = omega (arith, reader-range b n f)
+    by-kind false false f q = absurd (false≢true q)
 
 -- a reader is a node, and its slot among the nodes is its slot among the readers
 pub reader-node : (b : Bench) (n : ℕ) → isReader b n ≡ true → isNode b n ≡ true

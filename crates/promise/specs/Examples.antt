@@ -17,7 +17,7 @@ use Rattle.state.specs.State.{nothing, freshReader, freshNode, freshState, off,
 use Rattle.state.specs.Machine.{Machine, machine, regionOf}
 use Rattle.state.specs.declared.reader.Reader.{Reader}
 use Rattle.state.specs.declared.node.Node.{Node}
-use Rattle.promise.specs.Runs.{Heard, Chain, calls, lines, zeroStore, freshMachine, reached}
+use Rattle.promise.specs.Runs.{Exchange, Chain, calls, lines, zeroStore, freshMachine, reached}
 
 -- ---- the machines: lent is a plaque memory of zeros
 abbrev pub zeroMemory : List ℕ
@@ -63,7 +63,7 @@ relieved = (record { instance = 1; handover = 2; answers = 0 }, 0)
 abbrev pub silent : Node × ℕ
 silent = (freshNode, 0)
 
-abbrev pub heard : Call → Said → Machine → Heard
+abbrev pub heard : Call → Said → Machine → Exchange
 heard c s m = record { call = c; said = s; after = m }
 
 -- ---- a plaque arrives at reader 2; a search at reader 3 finds none; the plaque is read; there is none to leave reader 3 (14); the answer
@@ -80,7 +80,7 @@ withBoth = visited (holding 8) (holding 7) silent (fourBytes ++ notFound ++ repl
 abbrev pub withOther : Machine
 withOther = visited relieved (holding 7) silent (notFound ++ replicate 4089 0)
 
-unfoldable pub visit : List Heard
+unfoldable pub visit : List Exchange
 visit =
     heard (arrive 2 idA (0x11 ∷ 0x22 ∷ 0x33 ∷ 0x44 ∷ [])) (answered done) withPlaque
     ∷ heard (cmd (search 3)) queued withNotFound
@@ -98,7 +98,7 @@ withFour = visited (holding 8) silent silent (fourBytes ++ replicate 4088 0)
 abbrev pub withNone : Machine
 withNone = visited relieved silent silent zeroStore
 
-unfoldable pub visitAlone : List Heard
+unfoldable pub visitAlone : List Exchange
 visitAlone =
     heard (arrive 2 idA (0x11 ∷ 0x22 ∷ 0x33 ∷ 0x44 ∷ [])) (answered done) withPlaque
     ∷ heard (cmd (reads 2 0 4)) queued withFour
@@ -141,8 +141,8 @@ crowd = run full crowdStart crowding
 -- two chains of the code from a fresh machine: one of these calls, and one without those for readers 3 to 5. Reader 1's lines are the
 -- same in both, and so is its part at the end
 pub record Crowded : Type 0 where
-  pub among : List Heard
-  pub alone : List Heard
+  pub among : List Exchange
+  pub alone : List Exchange
   pub calls-among : calls among ≡ crowding ++ goingOn
   pub calls-alone : calls alone ≡ struck full 1 (crowding ++ goingOn)
   pub chain-among : Chain full begun among

@@ -3,9 +3,10 @@
 use Prim.Native.Nat.{ℕ}
 use mathlib.Core.Path.{_≡_}
 use mathlib.Core.Bool.{Bool, true, false, cond}
-use mathlib.Core.List.{List, [], _∷_, _++_}
+use mathlib.Core.List.{List, [], _∷_}
 use lib.Dec.{eqb}
-use lib.ListN.{length, drop}
+use lib.ListN.{length}
+use lib.Seq.{sets}
 use Rattle.meaning.specs.Bench.{Bench}
 use Rattle.meaning.specs.Gateway.{Gateway}
 use Rattle.meaning.specs.Call.{Call, Said, refused, answered, queued, Result, done, quiet, handed, Outcome, step}
@@ -17,24 +18,24 @@ use Rattle.promise.specs.declared.Called.{Called}
 use Rattle.state.specs.declared.State.{State}
 
 -- the paper's number or value for each case of the code's answer
-unfoldable pub spoken : Reply → Said
-spoken (Reply.Refused k) = refused k
-spoken Reply.Done = answered done
-spoken Reply.Quiet = answered quiet
-spoken Reply.Queued = queued
+unfoldable pub saidOf : Reply → Said
+saidOf (Reply.Refused k) = refused k
+saidOf Reply.Done = answered done
+saidOf Reply.Quiet = answered quiet
+saidOf Reply.Queued = queued
 
-unfoldable pub turned : Said → Bool
-turned (refused k) = true
-turned (answered r) = false
-turned queued = false
+unfoldable pub isRefusal : Said → Bool
+isRefusal (refused k) = true
+isRefusal (answered r) = false
+isRefusal queued = false
 
 -- On machine m the outcome o of the meaning is brought about: it is what is said; "A refusal returns only the number; state, store, plaque
 -- memory and output stay as they were"; otherwise the machine m′ after is consistent and means exactly the gateway after.
 pub record Does (b : Bench) (o : Outcome) (m : Machine) (said : Said) (m′ : Machine) : Type 0 where
   pub says : said ≡ o .said
-  pub refusal : turned said ≡ true → m′ ≡ m
-  pub sound : turned said ≡ false → unfit b m′ ≡ 0
-  pub means : turned said ≡ false → meaning b m′ ≡ o .next
+  pub refusal : isRefusal said ≡ true → m′ ≡ m
+  pub sound : isRefusal said ≡ false → unfit b m′ ≡ 0
+  pub means : isRefusal said ≡ false → meaning b m′ ≡ o .next
 
 -- refusal 1 or 2 by what is lent, else what the paper's step makes of the gateway that is meant
 unfoldable pub expected : Bench → Call → Machine → Outcome
@@ -48,11 +49,11 @@ Obeyed b c m said m′ = Does b (expected b c m) m said m′
 -- callers that carry the proof of a consistent machine: f is what the paper makes of the gateway; `Answers` that of the public calls
 abbrev pub Makes : Bench → (Gateway → Outcome) → State → List ℕ → List ℕ → Called → List ℕ → List ℕ → Type 0
 Makes b f s store memory r store′ memory′ =
-    Does b (f (meaning b (machine s store memory))) (machine s store memory) (spoken (r .reply)) (machine (r .state) store′ memory′)
+    Does b (f (meaning b (machine s store memory))) (machine s store memory) (saidOf (r .reply)) (machine (r .state) store′ memory′)
 
 abbrev pub Answers : Bench → Call → State → List ℕ → List ℕ → Called → List ℕ → List ℕ → Type 0
 Answers b c s store memory r store′ memory′ =
-    Obeyed b c (machine s store memory) (spoken (r .reply)) (machine (r .state) store′ memory′)
+    Obeyed b c (machine s store memory) (saidOf (r .reply)) (machine (r .state) store′ memory′)
 
 -- ---- collect has an output besides
 -- what the code hands back for what is said
@@ -68,7 +69,7 @@ unfoldable pub written : Said → List ℕ → List ℕ
 written (refused k) out = out
 written (answered done) out = out
 written (answered quiet) out = out
-written (answered (handed ws h)) out = ws ++ drop (length ws) out
+written (answered (handed ws h)) out = sets out 0 ws
 written queued out = out
 
 -- state, store and plaque memory are lent to collect and stay as they are

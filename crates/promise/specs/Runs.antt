@@ -11,24 +11,24 @@ use Rattle.state.specs.Machine.{Machine, machine, meaning}
 use Rattle.demands.specs.Demand.{Line}
 use Rattle.promise.specs.Obeyed.{Obeyed}
 
-pub record Heard : Type 0 where
+pub record Exchange : Type 0 where
   pub call : Call
   pub said : Said
   pub after : Machine
 
-unfoldable pub Chain : Bench → Machine → List Heard → Type 0
+unfoldable pub Chain : Bench → Machine → List Exchange → Type 0
 Chain b m [] = Unit
 Chain b m (h ∷ hs) = Obeyed b (h .call) m (h .said) (h .after) × Chain b (h .after) hs
 
-unfoldable pub ended : Machine → List Heard → Machine
+unfoldable pub ended : Machine → List Exchange → Machine
 ended m [] = m
 ended m (h ∷ hs) = ended (h .after) hs
 
-abbrev pub calls : List Heard → List Call
+abbrev pub calls : List Exchange → List Call
 calls hs = map (λ h. h .call) hs
 
 -- a chain as demand 3 compares it: the lines of reader i
-unfoldable pub lines : Bench → ℕ → List Heard → List Line
+unfoldable pub lines : Bench → ℕ → List Exchange → List Line
 lines b i [] = []
 lines b i (h ∷ hs) =
     record {
@@ -48,5 +48,5 @@ abbrev pub freshMachine : List ℕ → Machine
 freshMachine memory = machine freshState zeroStore memory
 
 -- the gateway that the code's machine means after such a chain
-abbrev pub reached : List ℕ → List Heard → Gateway
+abbrev pub reached : List ℕ → List Exchange → Gateway
 reached memory hs = meaning full (ended (freshMachine memory) hs)

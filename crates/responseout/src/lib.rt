@@ -11,7 +11,8 @@ use units::packing::word;
 ghost use mathlib.Core.Path.{_≡_};
 ghost use mathlib.Core.List.{_++_};
 ghost use Prim.Native.Nat.{_≤_};
-ghost use lib.ListN.{length, drop};
+ghost use lib.ListN.{length};
+ghost use lib.Seq.{sets};
 ghost use Rattle.meaning.specs.Bench.{full};
 ghost use Rattle.meaning.specs.Packet.{overall};
 ghost use Rattle.meaning.specs.Response.{markOf, bears, shownCount, amountWrong, respondRefusal, responseBody, responseWords};
@@ -79,8 +80,7 @@ fn mark(error: bool) -> u8
 fn put_body(r: Response, bytes: &[u8], out: &mut [u16])
     requires { ⌜ length (now bytes) ≤ 255 ⌝ }
     requires { ⌜ overall (length (now bytes)) ≤ length (now out) ⌝ }
-    ensures { λ _. ⌜ now (out .exit) ≡ responseBody r (now (bytes .entry)) ++ drop (overall (length (now (bytes .entry))))
-        (now (out .entry)) ⌝ }
+    ensures { λ _. ⌜ now (out .exit) ≡ sets (now (out .entry)) 0 (responseBody r (now (bytes .entry))) ⌝ }
 {
     let amount = Bytes(bytes.len() as u16);
     let s = r.stamp;
@@ -97,8 +97,7 @@ fn put_body(r: Response, bytes: &[u8], out: &mut [u16])
 fn put_words(form: Form, r: Response, bytes: &[u8], out: &mut [u16])
     requires { ⌜ length (now bytes) ≤ 255 ⌝ }
     requires { ⌜ shownCount form (r .node) (length (now bytes)) ≤ length (now out) ⌝ }
-    ensures { λ _. ⌜ now (out .exit) ≡ responseWords form r (now (bytes .entry)) ++ drop
-        (length (responseWords form r (now (bytes .entry)))) (now (out .entry)) ⌝ }
+    ensures { λ _. ⌜ now (out .exit) ≡ sets (now (out .entry)) 0 (responseWords form r (now (bytes .entry))) ⌝ }
 {
     if bears(form, r.node) {
         out[0] = word(0xFF, r.node);

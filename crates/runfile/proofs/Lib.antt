@@ -1,4 +1,2 @@
+-- Laws that belong to no one function.
 pub mod Records
-pub mod Shapes
-pub mod Method
-pub mod Plain

@@ -18,9 +18,9 @@ refuted true f = absurd (f refl)
 refuted false f = refl
 
 -- of an answer, which of the two it is says whether the test holds
-taken : {A : Type 0} (t : Bool) {r a b : A} → r ≡ cond t a b → (r ≡ b → ⊥) → (t ≡ true) × (r ≡ a)
-taken true e f = (refl, e)
-taken false e f = absurd (f e)
+chosen : {A : Type 0} (t : Bool) {r a b : A} → r ≡ cond t a b → (r ≡ b → ⊥) → (t ≡ true) × (r ≡ a)
+chosen true e f = (refl, e)
+chosen false e f = absurd (f e)
 
 untaken : {A : Type 0} (t : Bool) {a b : A} → b ≡ cond t a b → (b ≡ a → ⊥) → t ≡ false
 untaken true e f = absurd (f e)
@@ -57,7 +57,7 @@ pub record CountRead (bs : List ℕ) (n : ℕ) : Type 0 where
 pub count-read : (bs : List ℕ) {n : ℕ} → CountRecord.Count n ≡ countOf bs → CountRead bs n
 unfolding countOf
 count-read bs e =
-    let p = taken (countWhole bs) e (λ b. let z : _≡_ {A = ℕ} 0 1 = cc in omega arith) in
+    let p = chosen (countWhole bs) e (λ b. let z : _≡_ {A = ℕ} 0 1 = cc in omega arith) in
     let q = p .1 in
     record { said = cc; whole = p .0; there = count-there bs (p .0) }
 
@@ -110,7 +110,7 @@ pub record PlaqueRead (b : Bench) (bs : List ℕ) (n l : ℕ) : Type 0 where
 pub plaque-read : (b : Bench) (bs : List ℕ) {n : ℕ} {l : Bytes} → PlaqueRecord.Plaque n l ≡ plaqueOf b bs → PlaqueRead b bs n (l .0)
 unfolding plaqueOf
 plaque-read b bs {n} {l} e =
-    let p = taken (plaqueWhole b bs) e (λ b. let z : _≡_ {A = ℕ} 0 1 = cc in omega arith) in
+    let p = chosen (plaqueWhole b bs) e (λ b. let z : _≡_ {A = ℕ} 0 1 = cc in omega arith) in
     let q = p .1 in
     let i : n ≡ plaqueNode bs = cc in
     let j : l .0 ≡ plaqueLength bs = cc in
@@ -162,7 +162,7 @@ pub record CommandRead (bs : List ℕ) (n : ℕ) : Type 0 where
 pub command-read : (bs : List ℕ) {n : Words} → CommandRecord.Command n ≡ commandOf bs → CommandRead bs (n .0)
 unfolding commandOf
 command-read bs {n} e =
-    let p = taken (commandWhole bs) e (λ b. let z : _≡_ {A = ℕ} 0 1 = cc in omega arith) in
+    let p = chosen (commandWhole bs) e (λ b. let z : _≡_ {A = ℕ} 0 1 = cc in omega arith) in
     let q = p .1 in
     let j : n .0 ≡ commandLength bs = cc in
     let f = command-facts bs (p .0) in

@@ -1,8 +1,9 @@
-// The record that begins at a position of the bytes. Past their end nothing is left, so it is broken.
+// The bytes that are left at a position, and the record that they begin with: broken where they are too few for it.
 use crate::CommandRecord;
 use crate::CountRecord;
 use crate::PlaqueRecord;
 use units::Bytes;
+use units::LAST_READER;
 use units::Words;
 use units::packing::word;
 ghost use mathlib.Core.Path.{_≡_};
@@ -11,6 +12,16 @@ ghost use lib.ListN.{length, drop};
 ghost use Rattle.meaning.specs.Bench.{full};
 ghost use Rattle.listing.specs.Records.{two};
 ghost use Rattle.runfile.specs.Records.{countOf, plaqueOf, commandOf};
+
+// The bytes from a position on; none are left past the end.
+pub fn rest_at(bytes: &[u8], at: usize) -> &[u8]
+    ensures { λ r. ⌜ now r ≡ drop at (now (bytes .entry)) ⌝ }
+{
+    if bytes.len() < at {
+        return &bytes[..0];
+    }
+    &bytes[at..]
+}
 
 fn two_at(rest: &[u8], i: usize) -> u16
     requires { ⌜ i + 2 ≤ length (now rest) ⌝ }
@@ -21,7 +32,7 @@ fn two_at(rest: &[u8], i: usize) -> u16
     word(msb, lsb)
 }
 
-fn count_of(rest: &[u8]) -> CountRecord
+pub fn count_of(rest: &[u8]) -> CountRecord
     ensures { λ r. ⌜ r ≡ countOf (now (rest .entry)) ⌝ }
 {
     if rest.len() < 2 {
@@ -30,14 +41,14 @@ fn count_of(rest: &[u8]) -> CountRecord
     CountRecord::Count(two_at(rest, 0))
 }
 
-fn plaque_of(rest: &[u8]) -> PlaqueRecord
+pub fn plaque_of(rest: &[u8]) -> PlaqueRecord
     ensures { λ r. ⌜ r ≡ plaqueOf full (now (rest .entry)) ⌝ }
 {
     if rest.len() < 11 {
         return PlaqueRecord::Broken;
     }
     let node = rest[0];
-    if node < 1 || 16 < node {
+    if node < 1 || LAST_READER < node {
         return PlaqueRecord::Broken;
     }
     let length = Bytes(two_at(rest, 1));
@@ -50,7 +61,7 @@ fn plaque_of(rest: &[u8]) -> PlaqueRecord
     PlaqueRecord::Plaque { node, length }
 }
 
-fn command_of(rest: &[u8]) -> CommandRecord
+pub fn command_of(rest: &[u8]) -> CommandRecord
     ensures { λ r. ⌜ r ≡ commandOf (now (rest .entry)) ⌝ }
 {
     if rest.len() < 7 {
@@ -64,31 +75,4 @@ fn command_of(rest: &[u8]) -> CommandRecord
         return CommandRecord::Broken;
     }
     CommandRecord::Command(words)
-}
-
-pub fn count_at(bytes: &[u8], at: usize) -> CountRecord
-    ensures { λ r. ⌜ r ≡ countOf (drop at (now (bytes .entry))) ⌝ }
-{
-    if bytes.len() < at {
-        return CountRecord::Broken;
-    }
-    count_of(&bytes[at..])
-}
-
-pub fn plaque_at(bytes: &[u8], at: usize) -> PlaqueRecord
-    ensures { λ r. ⌜ r ≡ plaqueOf full (drop at (now (bytes .entry))) ⌝ }
-{
-    if bytes.len() < at {
-        return PlaqueRecord::Broken;
-    }
-    plaque_of(&bytes[at..])
-}
-
-pub fn command_at(bytes: &[u8], at: usize) -> CommandRecord
-    ensures { λ r. ⌜ r ≡ commandOf (drop at (now (bytes .entry))) ⌝ }
-{
-    if bytes.len() < at {
-        return CommandRecord::Broken;
-    }
-    command_of(&bytes[at..])
 }

@@ -1,9 +1,10 @@
 // The run file: a view of the lent bytes with its position, and the record that begins there.
 pub mod cursor;
 
-use crate::cursor::command_at;
-use crate::cursor::count_at;
-use crate::cursor::plaque_at;
+use crate::cursor::command_of;
+use crate::cursor::count_of;
+use crate::cursor::plaque_of;
+use crate::cursor::rest_at;
 use units::Bytes;
 use units::Words;
 ghost use mathlib.Core.Path.{_≡_};
@@ -36,47 +37,36 @@ pub struct RunFile<'a> {
     pub at: usize,
 }
 
-pub fn new<'a>(bytes: &'a [u8], at: usize) -> RunFile<'a>
-    ensures { λ r. ⌜ (r .bytes ≡ bytes .entry) × (r .at ≡ at) ⌝ }
-{
-    RunFile { bytes, at }
-}
-
 impl<'a> RunFile<'a> {
-    pub fn count(self) -> CountRecord
-        ensures { λ r. ⌜ r ≡ countOf (drop (self .entry .at) (now (self .entry .bytes))) ⌝ }
+    // The bytes that are left.
+    pub fn rest(self) -> &'a [u8]
+        ensures { λ r. ⌜ now r ≡ drop (self .entry .at) (now (self .entry .bytes)) ⌝ }
     {
-        count_at(self.bytes, self.at)
-    }
-
-    pub fn plaque(self) -> PlaqueRecord
-        ensures { λ r. ⌜ r ≡ plaqueOf full (drop (self .entry .at) (now (self .entry .bytes))) ⌝ }
-    {
-        plaque_at(self.bytes, self.at)
-    }
-
-    pub fn command(self) -> CommandRecord
-        ensures { λ r. ⌜ r ≡ commandOf (drop (self .entry .at) (now (self .entry .bytes))) ⌝ }
-    {
-        command_at(self.bytes, self.at)
+        rest_at(self.bytes, self.at)
     }
 }
 
-// With plain parameters, so that whoever calls these needs no walk by hand.
+// With plain parameters, so that whoever calls this needs no walk by hand.
+fn rest_of<'a>(bytes: &'a [u8], at: usize) -> &'a [u8]
+    ensures { λ r. ⌜ now r ≡ drop at (now (bytes .entry)) ⌝ }
+{
+    RunFile { bytes, at }.rest()
+}
+
 pub fn read_count(bytes: &[u8], at: usize) -> CountRecord
     ensures { λ r. ⌜ r ≡ countOf (drop at (now (bytes .entry))) ⌝ }
 {
-    new(bytes, at).count()
+    count_of(rest_of(bytes, at))
 }
 
 pub fn read_plaque(bytes: &[u8], at: usize) -> PlaqueRecord
     ensures { λ r. ⌜ r ≡ plaqueOf full (drop at (now (bytes .entry))) ⌝ }
 {
-    new(bytes, at).plaque()
+    plaque_of(rest_of(bytes, at))
 }
 
 pub fn read_command(bytes: &[u8], at: usize) -> CommandRecord
     ensures { λ r. ⌜ r ≡ commandOf (drop at (now (bytes .entry))) ⌝ }
 {
-    new(bytes, at).command()
+    command_of(rest_of(bytes, at))
 }

@@ -2,27 +2,27 @@
 -- Assumes nothing.
 use Rattle.units.proofs.Common.{sym, _∙_, _≡_, refl, ap, subst, true, false, Bool, List, [], _∷_, map, ℕ, arith, length, getD, take, set}
 use Rattle.units.specs.declared.Words.{Words}
-use Rattle.meaning.proofs.Terms.{full, hub, wellFormed, Gateway, swept, sweep, Said, refused, queued, Local, Try, Desk, fromDesk, lifted}
-use Rattle.meaning.proofs.Terms.{settled}
+use Rattle.meaning.proofs.Terms.{full, hub, wellFormed, Gateway, Sweep, swept, sweep, Said, refused, queued, Local, Try, Desk, fromDesk}
+use Rattle.meaning.proofs.Terms.{lifted, settled}
 use Rattle.meaning.specs.Gateway.{setName}
-use Rattle.state.proofs.Terms.{joinedNode, Machine, machine, meaning, nodeAt, counts, unfit}
+use Rattle.state.proofs.Terms.{Machine, machine, meaning, nodeAt, counts, unfit}
 use Rattle.state.specs.declared.node.Node.{Node}
 use Rattle.state.specs.declared.Name.{Name}
 use Rattle.state.specs.declared.State.{State}
 use Rattle.state.proofs.Read.{blank}
 use Rattle.lists.specs.Room.{roomFor}
 use Rattle.store.specs.Changes.{withLists}
-use Rattle.store.specs.Swept.{broomOf, sweptNode, sweptWords, sweptStore, heldMore, storeMore, Enlistable, Enlists}
+use Rattle.store.specs.Swept.{broomOf, sweptNode, sweptWords, sweptStore, Enlistable, Enlists}
 use Rattle.store.specs.declared.Enlisted.{Enlisted}
 use Rattle.store.specs.declared.Broom.{Broom}
 use Rattle.store.specs.declared.Broom.the-variants as B
+use Rattle.store.proofs.Changed.{Empties, clear-empties, reset-empties}
 use Rattle.store.proofs.Promised as P
-use Rattle.promise.specs.Obeyed.{spoken, Does}
+use Rattle.promise.specs.Obeyed.{saidOf, Does}
 use Rattle.promise.specs.declared.Reply.{Reply}
 use Rattle.promise.proofs.Parts.{parts, Means}
 use Rattle.promise.proofs.Tables.{node-hub}
-use Rattle.promise.proofs.Nodes.{withName, name-changed}
-use Rattle.promise.proofs.Sweeps.{cleared, restarted}
+use Rattle.promise.proofs.Nodes.{withName, name-changed, nodes-swept}
 use Rattle.promise.proofs.Promises.{AtHub, refusing}
 use Rattle.answers.specs.Decided.{told, Formed}
 use Rattle.answers.specs.declared.Verdict.{Verdict}
@@ -31,7 +31,7 @@ use Rattle.desk.specs.Ruled.{titleOf, deskOf}
 use Rattle.desk.specs.Ruled as D
 use Rattle.desk.specs.declared.Ruled.{Ruled}
 use Rattle.settle.specs.declared.Housed.{Housed}
-use Rattle.settle.specs.Settled.{House, housed, Houseable, Houses, housing}
+use Rattle.settle.specs.Settled.{House, Houseable, Houses, housing}
 use Rattle.settle.proofs.Settling.{sound, due-refused, due-joined, enlisted, enlistable}
 
 -- ---- the gateway's own call
@@ -46,18 +46,22 @@ module _ (m : Machine) (fit : unfit full m ≡ 0) where
       machine (withLists (m .state) (map (sweptNode z) (m .state .nodes)) (sweptWords z (m .state .held)))
       (sweptStore z (m .state .held) (m .store)) (m .memory)
 
+  emptied-means : {z : Sweep} {f : Node → Node} → Empties z f
+      → Means full (machine (withLists (m .state) (map f (m .state .nodes)) (sweptWords B.Clear (m .state .held)))
+      (sweptStore B.Clear (m .state .held) (m .store)) (m .memory)) (sweep z (meaning full m))
+  unfolding sweptWords sweptStore
+  emptied-means e =
+      let p = parts full m fit in
+      nodes-swept full m p _ (e .blank) _ _ (P.empties full (m .store) (m .state) (sound m fit) (length (m .state .held))
+      (p .eachHeld ∙ sym (p .eachNode)) e)
+
   pub swept-means : (z : Broom) → Means full (swept-by z) (sweep (broomOf z) (meaning full m))
   unfolding sweptNode sweptWords sweptStore broomOf swept
   swept-means B.Nothing =
       subst (λ (ns : List Node). Means full (machine (withLists (m .state) ns (m .state .held)) (m .store) (m .memory)) (meaning full m))
       (sym (map-same (sweptNode B.Nothing) (λ _. refl) (m .state .nodes))) (record { fit = fit; means = refl })
-  swept-means B.Clear =
-      let p = parts full m fit in
-      cleared full m fit _ _ (P.clears full (m .store) (m .state) (sound m fit) (length (m .state .held)) (p .eachHeld ∙ sym (p .eachNode)))
-  swept-means B.Reset =
-      let p = parts full m fit in
-      restarted full m fit _ _ (P.resets full (m .store) (m .state) (sound m fit) (length (m .state .held))
-      (p .eachHeld ∙ sym (p .eachNode)))
+  swept-means B.Clear = emptied-means clear-empties
+  swept-means B.Reset = emptied-means reset-empties
 
   module _ {answer : List ℕ} {d : Ruled} (s : D.Settles full d answer) where
     -- the machine with the effect
@@ -79,7 +83,7 @@ module _ (m : Machine) (fit : unfit full m ≡ 0) where
       abbrev words : List ℕ
       words = take (d .words .0) answer
 
-      pub governed-formed : wellFormed full (nodeAt full 16) words ≡ true
+      pub governed-formed : wellFormed full (nodeAt full (full .readers)) words ≡ true
       unfolding Formed
       governed-formed = subst (λ (v : Verdict). Formed full hub v words) v (s .formed)
 
@@ -89,93 +93,62 @@ module _ (m : Machine) (fit : unfit full m ≡ 0) where
       unfolding told lifted
       hub-due a m′ k = subst (λ (l : Local Desk). AtHub full m l a m′) (ap (λ (v : Verdict). told v (deskOf d) words) (sym v)) k
 
-      pub governed-13 : roomFor full (counts (sweptWords (d .broom) (m .state .held))) 16 (length words) ≡ false
+      pub governed-13 : roomFor full (counts (sweptWords (d .broom) (m .state .held))) (full .readers) (length words) ≡ false
           → AtHub full m (D.decided d answer) (refused 13) m
-      governed-13 f = hub-due _ _ (due-refused m hub 16 (node-hub full) refl _ words governed-formed governed-by governed-means f)
+      governed-13 f = hub-due _ _ (due-refused m hub (full .readers)
+          (node-hub full) refl _ words governed-formed governed-by governed-means f)
 
-      pub governed-queued : roomFor full (counts (sweptWords (d .broom) (m .state .held))) 16 (length words) ≡ true
+      pub governed-queued : roomFor full (counts (sweptWords (d .broom) (m .state .held))) (full .readers) (length words) ≡ true
           → AtHub full m (D.decided d answer) queued
-          (enlisted m hub 16 (node-hub full) refl _ words governed-formed governed-by governed-means)
-      governed-queued f = hub-due _ _ (due-joined m hub 16 (node-hub full) refl _ words governed-formed governed-by governed-means f)
+          (enlisted m hub (full .readers) (node-hub full) refl _ words governed-formed governed-by governed-means)
+      governed-queued f = hub-due _ _ (due-joined m hub (full .readers)
+          (node-hub full) refl _ words governed-formed governed-by governed-means f)
 
 -- ---- as `house` promises it
 pub house-enlistable : {nodes : List Node} {held : List Words} {name : Name} {store answer : List ℕ} {d : Ruled}
     → Houseable full nodes held name store → D.Settles full d answer → d .verdict ≡ W.Due
     → {ns : List Node} → ns ≡ map (sweptNode (d .broom)) nodes
-    → Enlistable full held 16 (getD ns 16 blank) (length (take (d .words .0) answer)) (length store)
+    → Enlistable full held (full .readers) (getD ns (full .readers) blank) (length (take (d .words .0) answer)) (length store)
 house-enlistable {nodes} {held} {name} {store} {answer} {d} a o v {ns} e =
     let m : Machine = machine (a .state) store (a .memory) in
     let z : Broom = d .broom in
-    let g = enlistable m (swept-by m (a .fit) z) (a .fit) (swept-means m (a .fit) z .fit) 16 (omega arith) (take (d .words .0) answer)
+    let g = enlistable m (swept-by m (a .fit) z) (a .fit) (swept-means m (a .fit) z .fit) (full .readers) (omega arith)
+    (take (d .words .0) answer)
     (governed-formed m (a .fit) o v) in
-    subst (λ (l : List Words). Enlistable full l 16 (getD ns 16 blank) (length (take (d .words .0) answer)) (length store))
-    (a .house .helds)
-    (subst (λ (l : List Node). Enlistable full (a .state .held) 16 (getD l 16 blank) (length (take (d .words .0) answer)) (length store))
-    (ap (map (sweptNode z)) (a .house .all) ∙ sym e) g)
+    rw (e, ← (a .house .all), ← (a .house .helds)) g
 
 module _ (nodes : List Node) (held : List Words) (name : Name) (store answer : List ℕ) {d : Ruled} (o : D.Settles full d answer) where
   abbrev Held : Housed → List ℕ → Type 0
   Held r store′ = Houses full (housing full d answer) nodes held name store r store′
 
-  -- the parts put back as they were
-  unmoved : (s : State) (p : Reply) → House nodes held name s → housed s (record { nodes = nodes; held = held; name = name; reply = p }) ≡ s
-  unmoved s p a =
-      ap (λ (l : List Node). record { name = name; readers = s .readers; nodes = l; held = held }) (sym (a .all))
-      ∙ ap (λ (l : List Words). record { name = name; readers = s .readers; nodes = s .nodes; held = l }) (sym (a .helds))
-      ∙ ap (λ (t : Name). record { name = t; readers = s .readers; nodes = s .nodes; held = s .held }) (sym (a .title))
-
   pub houses-refused : {k : ℕ} → d .verdict ≡ W.Refused k → Held (record
       { nodes = nodes; held = held; name = name; reply = Reply.Refused k }) store
-  unfolding spoken
-  houses-refused {k} v s memory a fit =
-      subst (λ (t : State). Does full (housing full d answer (meaning full (machine s store memory))) (machine s store memory) (refused k)
-      (machine t store memory))
-      (sym (unmoved s (Reply.Refused k) a)) (governed-refused (machine s store memory) fit o v)
+  unfolding saidOf
+  houses-refused v s memory a fit = rw (← (a .all), ← (a .helds), ← (a .title)) (governed-refused (machine s store memory) fit o v)
 
   module _ (v : d .verdict ≡ W.Due) {ns : List Node} (swept-is : ns ≡ map (sweptNode (d .broom)) nodes) {store′ : List ℕ} {q : Enlisted}
-      (e : Enlists full (d .broom) held 16 (getD ns 16 blank) (take (d .words .0) answer) store store′ q) where
+      (e : Enlists full (d .broom) held (full .readers) (getD ns (full .readers) blank) (take (d .words .0) answer) store store′ q) where
     abbrev w : List ℕ
     w = take (d .words .0) answer
 
     room-of : {t : Bool} → q .ok ≡ t → (s : State) → House nodes held name s
-        → roomFor full (counts (sweptWords (d .broom) (s .held))) 16 (length w) ≡ t
-    room-of f s a = ap (λ (l : List Words). roomFor full (counts (sweptWords (d .broom) l)) 16 (length w)) (a .helds) ∙ sym (e .room) ∙ f
+        → roomFor full (counts (sweptWords (d .broom) (s .held))) (full .readers) (length w) ≡ t
+    room-of f s a = rw (a .helds) (sym (e .room) ∙ f)
 
     pub houses-13 : q .ok ≡ false → Held (record { nodes = nodes; held = held; name = name; reply = Reply.Refused 13 }) store′
-    unfolding spoken
+    unfolding saidOf
     houses-13 f s memory a fit =
-        subst (λ (k : Machine). Does full (housing full d answer (meaning full (machine s store memory))) (machine s store memory)
-        (refused 13) k)
-        (ap (λ (l : List ℕ). machine s l memory) (sym (e .no f .2))
-        ∙ ap (λ (t : State). machine t store′ memory) (sym (unmoved s (Reply.Refused 13) a)))
-        (governed-13 (machine s store memory) fit o v (room-of f s a))
+        rw (e .no f .2, ← (a .all), ← (a .helds), ← (a .title)) (governed-13 (machine s store memory) fit o v (room-of f s a))
 
-    pub houses-queued : q .ok ≡ true → Held (record { nodes = set ns 16 (q .node); held = q .held; name = d .name; reply = Reply.Queued })
+    pub houses-queued : q .ok ≡ true → Held (record {
+      nodes = set ns (full .readers)
+          (q .node);
+      held = q .held;
+      name = d .name;
+      reply = Reply.Queued;
+    })
         store′
-    unfolding spoken
+    unfolding saidOf
     houses-queued f s memory a fit =
-        let y = e .yes f in
-        let z : Broom = d .broom in
-        let hs : List Words = sweptWords z (s .held) in
-        let all : map (sweptNode z) (s .nodes) ≡ ns = ap (map (sweptNode z)) (a .all) ∙ sym swept-is in
-        let h : heldMore hs 16 (length w) ≡ q .held = ap (λ (l : List Words). heldMore (sweptWords z l) 16 (length w)) (a .helds) ∙ sym
-        (y .1) in
-        let k : storeMore hs 16 w (sweptStore z (s .held) store) ≡ store′ =
-        ap (λ (l : List Words). storeMore (sweptWords z l) 16 w (sweptStore z l store)) (a .helds) ∙ sym (y .2) in
-        subst (λ (j : Machine). Does full (housing full d answer (meaning full (machine s store memory))) (machine s store memory) queued j)
-        (ap (λ (l : List Node). machine
-        (record {
-          name = d .name;
-          readers = s .readers;
-          nodes = set l 16 (joinedNode (getD l 16 blank));
-          held = heldMore hs 16
-              (length w);
-        })
-        (storeMore hs 16 w (sweptStore z (s .held) store)) memory) all
-        ∙ ap (λ (l : Node). machine (record { name = d .name; readers = s .readers; nodes = set ns 16 l; held = heldMore hs 16 (length w) })
-        (storeMore hs 16 w (sweptStore z (s .held) store)) memory) (sym (y .0))
-        ∙ ap (λ (l : List Words). machine (record { name = d .name; readers = s .readers; nodes = set ns 16 (q .node); held = l })
-        (storeMore hs 16 w (sweptStore z (s .held) store)) memory) h
-        ∙ ap (λ (l : List ℕ). machine (record { name = d .name; readers = s .readers; nodes = set ns 16 (q .node); held = q .held }) l
-        memory) k)
+        rw (e .yes f .2, e .yes f .1, e .yes f .0, swept-is, ← (a .all), ← (a .helds))
         (governed-queued (machine s store memory) fit o v (room-of f s a))

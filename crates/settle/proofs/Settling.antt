@@ -3,6 +3,7 @@
 use Rattle.units.proofs.Common.{sym, _∙_, _≡_, refl, ap, subst, true, false, List, ℕ, _≤_, _<_, arith, leb, length, getD, set, length-map}
 use Rattle.units.proofs.Common.{List·getD-map, leb-true, every, and-true}
 use Rattle.units.specs.declared.Words.{Words}
+use Rattle.meaning.specs.Bench.{nodeCount}
 use Rattle.meaning.proofs.Terms.{full, isNode, wellFormed, Gateway, join, fits, refused, queued, Try, settled}
 use Rattle.demands.specs.Sound.{full-sound}
 use Rattle.state.proofs.Terms.{joinedNode, nothing, Machine, machine, meaning, nodeSlot, nodeAt, bounded, counts, unfit}
@@ -54,12 +55,12 @@ sound m fit = let p = parts full m fit in record { size = p .store; lists = p .l
 bounds : (m : Machine) → unfit full m ≡ 0 → bounded full (counts (m .state .held)) ≡ true
 bounds m fit = let k = P.packed-sound full (m .store) (m .state) (sound m fit) in rw (k .helds) (k .bounds)
 
-few : (m : Machine) → unfit full m ≡ 0 → (i : ℕ) → i < 17 → getD (m .state .nodes) i blank .answers < 65535
+few : (m : Machine) → unfit full m ≡ 0 → (i : ℕ) → i < nodeCount full → getD (m .state .nodes) i blank .answers < 65535
 unfolding bounded
 few m fit i h =
     let p = parts full m fit in
     let o = and-true (every (λ h. leb h (full .limit)) (counts (m .state .held))) _ (bounds m fit) in
-    let l : length (counts (m .state .held)) ≡ 17 = length-map (m .state .held) (λ (w : Words). w .0) ∙ p .eachHeld in
+    let l : length (counts (m .state .held)) ≡ nodeCount full = length-map (m .state .held) (λ (w : Words). w .0) ∙ p .eachHeld in
     let b : getD (counts (m .state .held)) i 0 ≤ full .limit =
     leb-true _ _ (every-get (λ h. leb h (full .limit)) (counts (m .state .held)) i 0 (o .0) (omega arith)) in
     let g : getD (counts (m .state .held)) i 0 ≡ getD (m .state .held) i nothing .0 = List·getD-map (λ (w : Words). w .0) (m .state .held) i
@@ -68,7 +69,7 @@ few m fit i h =
     omega arith
 
 -- m has the lists before a sweep, m₁ after it
-pub enlistable : (m m₁ : Machine) → unfit full m ≡ 0 → unfit full m₁ ≡ 0 → (i : ℕ) → i < 17 → (w : List ℕ)
+pub enlistable : (m m₁ : Machine) → unfit full m ≡ 0 → unfit full m₁ ≡ 0 → (i : ℕ) → i < nodeCount full → (w : List ℕ)
     → wellFormed full (nodeAt full i) w ≡ true → Enlistable full (m .state .held) i (getD (m₁ .state .nodes) i blank) (length w)
     (length (m .store))
 enlistable m m₁ fit fit₁ i h w formed = record {

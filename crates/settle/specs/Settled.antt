@@ -17,7 +17,7 @@ use Rattle.state.specs.declared.node.Node.{Node}
 use Rattle.state.specs.declared.reader.Reader.{Reader}
 use Rattle.state.specs.declared.Name.{Name}
 use Rattle.state.specs.declared.State.{State}
-use Rattle.promise.specs.Obeyed.{spoken, Does}
+use Rattle.promise.specs.Obeyed.{saidOf, Does}
 use Rattle.promise.specs.declared.Reply.{Reply}
 use Rattle.orders.specs.Decided as O
 use Rattle.orders.specs.declared.Change.{Change}
@@ -50,7 +50,7 @@ pub record Seatable (b : Bench) (n : ℕ) (own : Node) (x : Reader) (held : List
 abbrev pub Seats : Bench → (Gateway → Outcome) → ℕ → Node → Reader → List Words → List ℕ → List ℕ → Seated → List ℕ → List ℕ → Type 0
 Seats b o n own x held store memory r store′ memory′ =
     (s : State) → Seat n own x held s → unfit b (machine s store memory) ≡ 0
-    → Does b (o (meaning b (machine s store memory))) (machine s store memory) (spoken (r .reply)) (machine (seated s n r) store′ memory′)
+    → Does b (o (meaning b (machine s store memory))) (machine s store memory) (saidOf (r .reply)) (machine (seated s n r) store′ memory′)
 
 -- ---- .. by the decision d, whatever the plaque memory and the command's data words are: the call that settles it takes neither
 abbrev pub seating : Bench → ℕ → Decided → List ℕ → List ℕ → List ℕ → Gateway → Outcome
@@ -87,7 +87,7 @@ pub record Houseable (b : Bench) (nodes : List Node) (held : List Words) (name :
 abbrev pub Houses : Bench → (Gateway → Outcome) → List Node → List Words → Name → List ℕ → Housed → List ℕ → Type 0
 Houses b o nodes held name store r store′ =
     (s : State) (memory : List ℕ) → House nodes held name s → unfit b (machine s store memory) ≡ 0
-    → Does b (o (meaning b (machine s store memory))) (machine s store memory) (spoken (r .reply)) (machine (housed s r) store′ memory)
+    → Does b (o (meaning b (machine s store memory))) (machine s store memory) (saidOf (r .reply)) (machine (housed s r) store′ memory)
 
 -- by the decision d
 abbrev pub housing : Bench → Ruled → List ℕ → Gateway → Outcome

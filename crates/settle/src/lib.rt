@@ -11,6 +11,7 @@ use store::Broom;
 use store::enlist;
 use store::swept;
 use units::NODES;
+use units::READERS;
 use units::Words;
 ghost use Prim.Native.Nat.{ℕ};
 ghost use mathlib.Core.List.{List};
@@ -104,9 +105,9 @@ pub fn house(
         Verdict::Due => {
             let broom = d.broom;
             let mut ns = swept(broom, nodes);
-            let own = ns[16];
+            let own = ns[READERS];
             let n = d.words.0 as usize;
-            let e = enlist(broom, held, 16, own, &answer[..n], store);
+            let e = enlist(broom, held, READERS, own, &answer[..n], store);
             if !e.ok {
                 return Housed {
                     nodes,
@@ -118,7 +119,7 @@ pub fn house(
             let last = e.node;
             let helds = e.held;
             let title = d.name;
-            ns[16] = last;
+            ns[READERS] = last;
             Housed {
                 nodes: ns,
                 held: helds,

@@ -7,7 +7,7 @@ use Rattle.units.proofs.Common.{ne-eqb, le-leb, leb-true, every, and-true, no-c
 use native.Mathlib.Nat.{add-suc, suc-add}
 use lib.Seq.{take-length}
 use Rattle.units.specs.declared.Words.{Words}
-use Rattle.meaning.proofs.Terms.{Bench, joined, taken, emptied, swept, clearing, resetting, wellFormed, added, held}
+use Rattle.meaning.proofs.Terms.{Bench, Sweep, joined, taken, emptied, swept, clearing, resetting, wellFormed, added, held}
 use Rattle.meaning.specs.Gateway as M
 use Rattle.state.proofs.Terms.{nothing, freshNode, joinedNode, takenNode, emptiedNode, laid, allLaid, plain, nodeAt, formed, chargesOf}
 use Rattle.state.proofs.Terms.{bounded, counts}
@@ -250,45 +250,49 @@ module _ (b : Bench) (store : List ℕ) (ns : List Node) (hs : List Words) (ms :
           (rw map-set (less-bounded b (map held ms) i (held x) k (omega (arith, g, oldest-held, y)) (p .bounds)))
 
 -- ---- all lists emptied
--- f is what a command makes of a node that is meant, g of a node: nothing is pending after it
-module _ (f : M.Node → M.Node) (g : Node → Node) (same : (m : M.Node) → g (nodeFor m) ≡ nodeFor (f m))
-    (none : (m : M.Node) → f m .pending ≡ []) where
-  none-laid : (ms : List M.Node) → allLaid (map f ms) ≡ []
+-- g is for a node what the sweep z is for what it means; nothing is pending after it
+pub record Empties (z : Sweep) (g : Node → Node) : Type 0 where
+  pub same : (m : M.Node) → g (nodeFor m) ≡ nodeFor (swept z m)
+  pub none : (m : M.Node) → swept z m .pending ≡ []
+  pub blank : swept z plain ≡ plain
+
+module _ {z : Sweep} {g : Node → Node} (e : Empties z g) where
+  none-laid : (ms : List M.Node) → allLaid (map (swept z) ms) ≡ []
   unfolding allLaid laid
   none-laid [] = refl
-  none-laid (m ∷ ms) = rw (none m) (none-laid ms)
+  none-laid (m ∷ ms) = rw (e .none m) (none-laid ms)
 
-  none-formed : (b : Bench) (j : ℕ) (ms : List M.Node) → formed b j (map f ms) ≡ true
+  none-formed : (b : Bench) (j : ℕ) (ms : List M.Node) → formed b j (map (swept z) ms) ≡ true
   unfolding formed every
   none-formed b j [] = refl
-  none-formed b j (m ∷ ms) = rw (none m) (none-formed b (suc j) ms)
+  none-formed b j (m ∷ ms) = rw (e .none m) (none-formed b (suc j) ms)
 
-  none-held : (ms : List M.Node) → counts (replicate (length ms) nothing) ≡ map held (map f ms)
+  none-held : (ms : List M.Node) → counts (replicate (length ms) nothing) ≡ map held (map (swept z) ms)
   unfolding added
   none-held [] = refl
-  none-held (m ∷ ms) = rw (none m) (ap (λ (l : List ℕ). 0 ∷ l) (none-held ms))
+  none-held (m ∷ ms) = rw (e .none m) (ap (λ (l : List ℕ). 0 ∷ l) (none-held ms))
 
-  none-bounded : (b : Bench) (ms : List M.Node) → (every (λ h. leb h (b .limit)) (map held (map f ms)) ≡ true)
-      × (chargesOf (b .share) (map held (map f ms)) ≤ chargesOf (b .share) (map held ms))
+  none-bounded : (b : Bench) (ms : List M.Node) → (every (λ h. leb h (b .limit)) (map held (map (swept z) ms)) ≡ true)
+      × (chargesOf (b .share) (map held (map (swept z) ms)) ≤ chargesOf (b .share) (map held ms))
   unfolding every chargesOf added
   none-bounded b [] = (refl, omega arith)
   none-bounded b (m ∷ ms) =
       let r = none-bounded b ms in
-      let k : chargesOf (b .share) (map held (map f ms)) ≤ chargesOf (b .share) (map held ms) = r .1 in
-      (rw (none m) (both (le-leb 0 (b .limit) (omega arith)) (r .0)), rw (none m) (omega arith))
+      let k : chargesOf (b .share) (map held (map (swept z) ms)) ≤ chargesOf (b .share) (map held ms) = r .1 in
+      (rw (e .none m) (both (le-leb 0 (b .limit) (omega arith)) (r .0)), rw (e .none m) (omega arith))
 
-  nodes-same : (ms : List M.Node) → map g (map nodeFor ms) ≡ map nodeFor (map f ms)
+  nodes-same : (ms : List M.Node) → map g (map nodeFor ms) ≡ map nodeFor (map (swept z) ms)
   nodes-same [] = refl
-  nodes-same (m ∷ ms) = rw (same m, nodes-same ms)
+  nodes-same (m ∷ ms) = rw (e .same m, nodes-same ms)
 
-  packed-none : (b : Bench) (store : List ℕ) (ns : List Node) (hs : List Words) (ms : List M.Node) → Packed b store ns hs ms
-      → Packed b (replicate (length store) 0) (map g ns) (replicate (length ms) nothing) (map f ms)
+  pub packed-emptied : (b : Bench) (store : List ℕ) (ns : List Node) (hs : List Words) (ms : List M.Node) → Packed b store ns hs ms
+      → Packed b (replicate (length store) 0) (map g ns) (replicate (length ms) nothing) (map (swept z) ms)
   unfolding bounded
-  packed-none b store ns hs ms p =
+  packed-emptied b store ns hs ms p =
       let o = none-bounded b ms in
       let c : chargesOf (b .share) (map held ms) ≤ b .store =
       leb-true _ _ (and-true (every (λ h. leb h (b .limit)) (map held ms)) _ (p .bounds) .1) in
-      let k : chargesOf (b .share) (map held (map f ms)) ≤ b .store = omega (arith, o .1) in
+      let k : chargesOf (b .share) (map held (map (swept z) ms)) ≤ b .store = omega (arith, o .1) in
       record {
         size = length-replicate (length store) 0 ∙ p .size;
         nodes = rw (p .nodes) (nodes-same ms);
@@ -311,15 +315,14 @@ unfolding emptied
 clear-none m [] e = e
 clear-none m (a ∷ r) e = refl
 
-pub packed-cleared : (b : Bench) (store : List ℕ) (ns : List Node) (hs : List Words) (ms : List M.Node) → Packed b store ns hs ms
-    → Packed b (replicate (length store) 0) (map emptiedNode ns) (replicate (length ms) nothing) (map (swept clearing) ms)
-unfolding swept
-packed-cleared = packed-none (swept clearing) emptiedNode (λ m. clear-same m (m .pending)) (λ m. clear-none m (m .pending) refl)
+pub clear-empties : Empties clearing emptiedNode
+unfolding swept emptied
+clear-empties = record { same = λ m. clear-same m (m .pending); none = λ m. clear-none m (m .pending) refl; blank = refl }
 
-pub packed-reset : (b : Bench) (store : List ℕ) (ns : List Node) (hs : List Words) (ms : List M.Node) → Packed b store ns hs ms
-    → Packed b (replicate (length store) 0) (map resetNode ns) (replicate (length ms) nothing) (map (swept resetting) ms)
-unfolding swept resetNode
-packed-reset =
-    packed-none (swept resetting) resetNode
-    (λ m. ap (λ (n : Node). record { instance = 0; handover = n .handover; answers = n .answers }) (clear-same m (m .pending)))
-    (λ m. clear-none m (m .pending) refl)
+pub reset-empties : Empties resetting resetNode
+unfolding swept emptied resetNode
+reset-empties = record {
+  same = λ m. ap (λ (n : Node). record { instance = 0; handover = n .handover; answers = n .answers }) (clear-same m (m .pending));
+  none = λ m. clear-none m (m .pending) refl;
+  blank = refl;
+}

@@ -4,11 +4,9 @@ use Rattle.units.proofs.Common.{sym, _∙_, _≡_, refl, ap, true, List, [], _�
 use Rattle.units.proofs.Common.{arith, leb, length, drop, getD, set, replicate, length-append, length-map, length-replicate, List·getD-map}
 use Rattle.units.proofs.Common.{leb-true, every, and-true}
 use Rattle.units.specs.declared.Words.{Words}
-use Rattle.meaning.proofs.Terms.{Bench, joined, swept, clearing, resetting, overall, wellFormed, added, held}
+use Rattle.meaning.proofs.Terms.{Bench, Sweep, joined, swept, overall, wellFormed, added, held}
 use Rattle.meaning.specs.Gateway as M
-use Rattle.state.proofs.Terms.{nothing, freshNode, joinedNode, takenNode, emptiedNode, allLaid, nodesIn, plain, nodeAt, chargesOf, bounded}
-use Rattle.state.proofs.Terms.{counts}
-use Rattle.state.specs.State.{resetNode}
+use Rattle.state.proofs.Terms.{nothing, freshNode, joinedNode, takenNode, allLaid, nodesIn, plain, nodeAt, chargesOf, bounded, counts}
 use Rattle.state.specs.Layout.{front}
 use Rattle.state.specs.declared.node.Node.{Node}
 use Rattle.state.specs.declared.State.{State}
@@ -21,7 +19,7 @@ use Rattle.lists.specs.Room.{roomFor, sum, placeOf}
 use Rattle.lists.proofs.Places.{place-suc, place-all, place-in, sum-charges}
 use Rattle.store.specs.Changes.{withLists, Sound, Listed, joinedAt, Joinable, takenAt}
 use Rattle.store.proofs.Changed.{formed-at, end-is, node-is, held-is, packed-joined, oldest-formed, oldest-drop, oldest-long}
-use Rattle.store.proofs.Changed.{oldest-held, packed-taken, packed-cleared, packed-reset}
+use Rattle.store.proofs.Changed.{oldest-held, packed-taken, Empties, packed-emptied}
 
 -- ---- room kept: both bounds are met after it
 pub room-bounded : (b : Bench) (hs : List ℕ) (i words : ℕ) → bounded b hs ≡ true → roomFor b hs i words ≡ true
@@ -211,14 +209,8 @@ module _ (b : Bench) (store : List ℕ) (s : State) (ok : Sound b store s) where
         ap (λ (n : ℕ). removed store 0 n (placeOf hs k)) f ∙ ap (removed store 0 (0 + (length a + 0))) end-laid
         ∙ removed-at store [] [] a z (packed-sound .words) ∙ ap (λ (n : ℕ). replicate n 0) e
 
-    pub clears : Listed b store (removed store 0 (placeOf hs k) (placeOf hs k)) s (withLists s (map emptiedNode ns) (replicate k nothing))
-        (map (swept clearing) ms)
-    clears =
+    pub empties : {z : Sweep} {g : Node → Node} → Empties z g
+        → Listed b store (removed store 0 (placeOf hs k) (placeOf hs k)) s (withLists s (map g ns) (replicate k nothing)) (map (swept z) ms)
+    empties e =
         let l : k ≡ length ms = q ∙ sym (length-nodes store ns) in
-        rw (wiped, l) (listed _ _ _ _ (packed-cleared b store ns (s .held) ms packed-sound))
-
-    pub resets : Listed b store (removed store 0 (placeOf hs k) (placeOf hs k)) s (withLists s (map resetNode ns) (replicate k nothing))
-        (map (swept resetting) ms)
-    resets =
-        let l : k ≡ length ms = q ∙ sym (length-nodes store ns) in
-        rw (wiped, l) (listed _ _ _ _ (packed-reset b store ns (s .held) ms packed-sound))
+        rw (wiped, l) (listed _ _ _ _ (packed-emptied e b store ns (s .held) ms packed-sound))

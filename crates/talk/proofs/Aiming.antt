@@ -22,20 +22,21 @@ use Rattle.dialog.specs.Dialog.{saidLine, replyTo}
 use Rattle.dialogout.proofs.Rooms.{length-unreadable}
 use Rattle.demands.specs.Sound.{full-sound}
 use Rattle.lines.specs.declared.Heard.{Heard}
-use Rattle.talk.specs.declared.aim.Aside.{Aside}
-use Rattle.talk.specs.declared.aim.Want.{Want}
-use Rattle.talk.specs.declared.aim.Order.{Order}
-use Rattle.talk.specs.declared.aim.Ask.{Ask}
-use Rattle.talk.specs.declared.aim.Whom.{Whom}
+use Rattle.aiming.specs.declared.Aside.{Aside}
+use Rattle.aiming.specs.declared.Want.{Want}
+use Rattle.aiming.specs.declared.Order.{Order}
+use Rattle.aiming.specs.declared.Ask.{Ask}
+use Rattle.aiming.specs.declared.Whom.{Whom}
 use Rattle.talk.specs.Talk.{Plays, Follows}
-use Rattle.talk.specs.Aim.{unlessRefused, arriveRefusal, orderOf, forNode, aimed, asideLine, Lies, asked, Orders, Asks, wanted}
+use Rattle.aiming.specs.Aim.{unlessRefused, arriveRefusal, orderOf, forNode, aimed}
+use Rattle.talk.specs.Parts.{asideLine, Lies, asked, Orders, Asks, wanted}
 use Rattle.talk.proofs.Numbers.{judged-most}
-use Rattle.talk.proofs.Hearing.{Told, Buffered}
+use Rattle.talk.proofs.Hearing.{Understood, Buffered}
 use Rattle.talk.proofs.Talking.{played, plays-look, plays-call}
 
 -- ---- what a line is, by whom it is for
 pub record ForNobody (line : List ℕ) (a : Aside) : Type 0 where
-  pub lies : Lies a 4096
+  pub lies : Lies a (full .store)
   pub plays : {m : Machine} → unfit full m ≡ 0 → {old new : List ℕ} {to at : ℕ} → Put old to (asideLine a (m .store)) new at
       → Plays full m line old to new at m
 
@@ -93,11 +94,11 @@ module _ (line words id bytes : List ℕ) where
   unless : (c : Call) → spoken line ≡ call c → (k : ℕ) → judged full c ≡ k → (w : Whom) → (judged full c ≡ 0 → Aimed w)
       → Aimed (unlessRefused k w)
   unfolding Aimed
-  unless c e k j w goes = go (eqb k 0) refl
+  unless c e k j w goes = by-number (eqb k 0) refl
     where
-      go : (t : Bool) → eqb k 0 ≡ t → Aimed (cond t w (Whom.Nobody (Aside.Refused k)))
-      go true z = goes (j ∙ eqb-true k 0 z)
-      go false z = refuses c e j (eqb-false k 0 z)
+      by-number : (t : Bool) → eqb k 0 ≡ t → Aimed (cond t w (Whom.Nobody (Aside.Refused k)))
+      by-number true z = goes (j ∙ eqb-true k 0 z)
+      by-number false z = refuses c e j (eqb-false k 0 z)
 
   -- a list's
   listed : (n : ℕ) (w : Want) → spoken line ≡ call (wanted n w) → Aimed (unlessRefused (judged full (wanted n w)) (Whom.List n w))
@@ -108,7 +109,7 @@ module _ (line words id bytes : List ℕ) where
   ordered : (t : Stamp) (f : Form) (n : Words) → n .0 ≤ length words → spoken line ≡ call (command t f (take (n .0) words))
       → judged full (command t f (take (n .0) words)) ≡ 0 → Aimed (forNode full (orderOf full t f n words))
   unfolding Aimed forNode orderOf asked Asks
-  ordered t f n l e j = go (eqb (o .what .node) hub) refl
+  ordered t f n l e j = by-node (eqb (o .what .node) hub) refl
     where
       o : Order
       o = orderOf full t f n words
@@ -116,16 +117,16 @@ module _ (line words id bytes : List ℕ) where
       orders : Orders full words o
       orders = record { long = l; fine = j; kind = refl; what = refl }
 
-      go : (z : Bool) → eqb (o .what .node) hub ≡ z → Aimed (cond z (Whom.Gateway o) (Whom.Reader (o .what .node) (Ask.Command o)))
-      go true z = record { orders = orders; own = eqb-true _ hub z; says = e }
-      go false z = record {
+      by-node : (z : Bool) → eqb (o .what .node) hub ≡ z → Aimed (cond z (Whom.Gateway o) (Whom.Reader (o .what .node) (Ask.Command o)))
+      by-node true z = record { orders = orders; own = eqb-true _ hub z; says = e }
+      by-node false z = record {
         is = P.for-reader full t f (take (n .0) words) j (eqb-false _ hub z);
         asks = (orders, refl);
         says = e;
       }
 
-  by-case : (h : Heard) → Told (spoken line) h words id bytes → Aimed (aimed full h words)
-  unfolding Aimed aimed Lies asideLine asked Asks wanted Told replyTo Follows
+  by-case : (h : Heard) → Understood (spoken line) h words id bytes → Aimed (aimed full h words)
+  unfolding Aimed aimed Lies asideLine asked Asks wanted Understood replyTo Follows
   by-case Heard.Passed e = record { lies = tt; plays = λ fit p. played e p refl (omega (arith, p .next)) }
   by-case Heard.Unreadable e = record { lies = tt; plays = λ fit p. played e p refl (omega (arith, p .next, length-unreadable)) }
   by-case (Heard.Store first count) (e, few, inside) = record {

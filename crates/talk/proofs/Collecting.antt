@@ -21,14 +21,14 @@ use Rattle.text.specs.Text.{Put}
 use Rattle.text.proofs.Writing.{put-as}
 use Rattle.listing.specs.Lines.{refusedLine}
 use Rattle.listingout.proofs.Rooms.{refused-short}
-use Rattle.dialog.specs.Dialog.{collectedLine, saidLine}
+use Rattle.dialog.specs.Dialog.{collectedLine, saidLine, longestAnswer}
 use Rattle.dialogout.proofs.Rooms.{collected-short}
-use Rattle.talk.specs.declared.aim.Want.{Want}
-use Rattle.talk.specs.Aim.{wanted, Tells}
+use Rattle.aiming.specs.declared.Want.{Want}
+use Rattle.talk.specs.Parts.{wanted, Tells}
 
 -- ---- the machine stays, as the meaning asks, and what is said was written
 tells : (b : Bench) (m : Machine) → unfit b m ≡ 0 → (f : Form) (n : ℕ) (s : Said) {old new : List ℕ} {to r : ℕ}
-    → step b (meaning b m) (collect f n 135) ≡ saying s (meaning b m) → Put old to (saidLine s) new r → length (saidLine s) ≤ 691
+    → step b (meaning b m) (collect f n 135) ≡ saying s (meaning b m) → Put old to (saidLine s) new r → length (saidLine s) ≤ longestAnswer
     → Tells b (collect f n 135) m old to new r m
 tells b m fits f n s e p l = record {
   does = record {
@@ -43,11 +43,11 @@ tells b m fits f n s e p l = record {
 
 -- an answer has at most 135 words, word 00 counted
 pub shown-few : (f : Form) (n : ℕ) (w : List ℕ) → length w ≤ 134 → length (shown f n w) ≤ 135
-shown-few f n w h = go (bears f n) refl
+shown-few f n w h = by-form (bears f n) refl
   where
-    go : (t : Bool) → bears f n ≡ t → length (shown f n w) ≤ 135
-    go true e = omega (arith, ap length (shown-headed f n w e), h)
-    go false e = omega (arith, ap length (shown-bare f n w e), h)
+    by-form : (t : Bool) → bears f n ≡ t → length (shown f n w) ≤ 135
+    by-form true e = omega (arith, ap length (shown-headed f n w e), h)
+    by-form false e = omega (arith, ap length (shown-bare f n w e), h)
 
 module _ {i : ℕ} {own : Node} {held : List Words} (s : State) (store memory : List ℕ) (fit : unfit full (machine s store memory) ≡ 0)
     (n : ℕ) (is : isNode full n ≡ true) (at : nodeSlot full n ≡ i) (a : Slot i own held s) (f : Form) where
@@ -98,8 +98,8 @@ module _ {i : ℕ} {own : Node} {held : List Words} (s : State) (store memory : 
         (subst (λ (u : State). Tells full (collect f n 135) lent old to new r (machine u store memory)) (sym (slot-back s a)) t)
 
     pub listed-said : {h : ℕ} {said : Said} {m′ : Machine} → w ≡ Want.Acknowledge h
-        → Does full (step full (meaning full lent) (acknowledge n h)) lent said m′ → Put old to (saidLine said) new r → r ≤ to + 691
-        → Tells full (wanted n w) lent old to new r m′
+        → Does full (step full (meaning full lent) (acknowledge n h)) lent said m′ → Put old to (saidLine said) new r
+        → r ≤ to + longestAnswer → Tells full (wanted n w) lent old to new r m′
     unfolding wanted
     listed-said {h} {said} {m′} e d p l =
         subst (λ (w : Want). Tells full (wanted n w) lent old to new r m′) (sym e) (record {

@@ -3,7 +3,6 @@ pub mod Lying
 pub mod Talking
 pub mod Collecting
 pub mod Hearing
-pub mod Aimed
 pub mod Reading
 pub mod Numbers
 pub mod Aiming

@@ -1,8 +1,8 @@
 -- On a consistent machine the lent store is the one that the gateway's lists make: the words of a look are those of the definition.
 -- Assumes nothing.
-use Rattle.units.proofs.Common.{sym, _∙_, _≡_, refl, ap, subst, inl, inr, _⊎_, true, List, [], _∷_, _++_, ℕ, _≤_, _-_, _+_, _<_, suc, zero}
-use Rattle.units.proofs.Common.{arith, length, getD, length-append, List·getD-append, ext-getD, le-leb}
-use Rattle.meaning.proofs.Terms.{Bench, hub, isReader, Gateway, Node}
+use Rattle.units.proofs.Common.{sym, _∙_, _≡_, refl, ap, inl, inr, _⊎_, true, List, [], _∷_, _++_, ℕ, _≤_, _-_, _+_, _<_, suc, zero, arith}
+use Rattle.units.proofs.Common.{length, getD, length-append, List·getD-append, ext-getD, le-leb}
+use Rattle.meaning.proofs.Terms.{Bench, hub, isReader, Node}
 use Rattle.demands.specs.Sound.{Sound}
 use Rattle.state.proofs.Terms.{storeOf, Machine, meaning, nodesIn, plain, unfit}
 use Rattle.state.proofs.Lists.{both, below-or}
@@ -49,17 +49,17 @@ module _ (b : Bench) (ok : Sound b) (m : Machine) (fits : unfit b m ≡ 0) where
 
   node-in-order : (i : ℕ) → i < b .readers + 1 → getD nodes i plain ≡ getD (inOrder b (meaning b m)) i plain
   unfolding inOrder
-  node-in-order i h = go (below-or i (b .readers))
+  node-in-order i h = by-place (below-or i (b .readers))
     where
-      go : (i < b .readers) ⊎ (b .readers ≤ i) → getD nodes i plain ≡ getD (firstNodes (b .readers) f ++ (f hub ∷ [])) i plain
-      go (inl l) =
+      by-place : (i < b .readers) ⊎ (b .readers ≤ i) → getD nodes i plain ≡ getD (firstNodes (b .readers) f ++ (f hub ∷ [])) i plain
+      by-place (inl l) =
           let r : isReader b (i + 1) ≡ true = both (le-leb 1 (i + 1) (omega arith)) (le-leb (i + 1) (b .readers) (omega arith)) in
           let s : i + 1 - 1 ≡ i = omega arith in
           ap (λ (k : ℕ). getD nodes k plain) (sym (reader-slot b ok (i + 1) r ∙ s))
           ∙ sym (node-at b m (i + 1) (reader-node b (i + 1) r))
           ∙ sym (first-at (b .readers) f i l)
           ∙ sym (List·getD-append (firstNodes (b .readers) f) (f hub ∷ []) plain i (omega (arith, l, length-first (b .readers) f)))
-      go (inr l) =
+      by-place (inr l) =
           let s : b .readers ≡ i = omega arith in
           ap (λ (k : ℕ). getD nodes k plain) (sym s)
           ∙ sym (node-at b m hub (node-hub b))

@@ -16,12 +16,12 @@ use Rattle.settle.specs.declared.Seated.{Seated}
 use Rattle.settle.specs.declared.Housed.{Housed}
 use Rattle.state.specs.declared.Name.{Name}
 use Rattle.demands.specs.Sound.{full-sound}
-use Rattle.desk.specs.Ruled.{ToldOf}
+use Rattle.desk.specs.Ruled.{LimitedOf}
 use Rattle.obey.proofs.Packets.{orderly, step-reader-is, instead, heeded, step-hub-is}
 use Rattle.obey.proofs.Taking.{checks-here}
-use Rattle.talk.specs.declared.aim.Order.{Order}
-use Rattle.talk.specs.declared.aim.Ask.{Ask}
-use Rattle.talk.specs.Aim.{asked, Orders, Asks}
+use Rattle.aiming.specs.declared.Order.{Order}
+use Rattle.aiming.specs.declared.Ask.{Ask}
+use Rattle.talk.specs.Parts.{asked, Orders, Asks}
 
 -- ---- what the call says, by its case
 module _ (n : ℕ) (ask : Ask) (ws id bytes : List ℕ) (q : Asks full n ask ws id bytes) where
@@ -79,7 +79,7 @@ module _ {n : ℕ} {own : Node} {x : Reader} {held : List Words} {store memory :
 module _ {nodes : List Node} {held : List Words} {name : Name} {store : List ℕ} (a : Houseable full nodes held name store) {ws : List ℕ}
     {o : Order}
     (q : Orders full ws o) {words : List ℕ} (load : words ≡ commandData (o .form) (take (o .words .0) ws)) where
-  pub hub-needs : (isStamp (o .stamp) ≡ true) × ToldOf full (o .kind) (o .what) words
+  pub hub-needs : (isStamp (o .stamp) ≡ true) × LimitedOf full (o .kind) (o .what) words
   hub-needs =
       let p = heeded full (o .stamp) (o .form) (take (o .words .0) ws) (q .fine) (q .kind) (q .what) load
       (machine (a .state) store (a .memory)) (a .fit) in

@@ -1,8 +1,8 @@
 -- A line played on a machine that is consistent: the machine after is consistent and means the gateway after the line, and what was
 -- written is the line's reply.
 -- Assumes nothing.
-use Rattle.units.proofs.Common.{sym, _∙_, _≡_, refl, ap, subst, List, ℕ, _≤_, _-_, _+_, arith, length, drop, take}
-use Rattle.units.proofs.Common.{length-take, length-take-le, slice, drop-at, take-add}
+use Rattle.units.proofs.Common.{sym, _∙_, _≡_, refl, ap, subst, List, ℕ, _≤_, _-_, _+_, arith, length, drop, take, length-take}
+use Rattle.units.proofs.Common.{length-take-le, slice, drop-at, take-add}
 use Rattle.meaning.proofs.Terms.{Bench, Call, Said, step}
 use Rattle.demands.specs.Sound.{Sound}
 use Rattle.state.proofs.Terms.{Machine, meaning, unfit}
@@ -12,7 +12,7 @@ use Rattle.promise.proofs.Chains.{stepped}
 use Rattle.text.specs.Text.{Put}
 use Rattle.text.proofs.Writing.{put-as}
 use Rattle.dialog.specs.Spoken.{Spoken, passed, unreadable, call, look, spoken}
-use Rattle.dialog.specs.Dialog.{saidLine, storeLine, replyTo}
+use Rattle.dialog.specs.Dialog.{saidLine, storeLine, replyTo, longestAnswer}
 use Rattle.dialogout.proofs.Rooms.{store-short}
 use Rattle.talk.specs.Talk.{Follows, Plays}
 use Rattle.talk.proofs.Lying.{store-lies}
@@ -39,7 +39,7 @@ module _ {b : Bench} {m : Machine} {line old new : List ℕ} {to at : ℕ} where
 
   -- a line played, by what it says
   pub played : {s : Spoken} {m′ : Machine} → spoken line ≡ s → Put old to (replyTo b (meaning b m) s .line) new at → Follows b m s m′
-      → at ≤ to + 691 → Plays b m line old to new at m′
+      → at ≤ to + longestAnswer → Plays b m line old to new at m′
   played e p f h = record { wrote = rw e p; follows = rw e f; room = h }
 
   -- a look, and the words that were looked at written
@@ -55,7 +55,7 @@ module _ {b : Bench} {m : Machine} {line old new : List ℕ} {to at : ℕ} where
 
   -- a call, made as the meaning's step asks, and what was said of it written
   pub plays-call : (c : Call) {said : Said} {m′ : Machine} → spoken line ≡ call c → Does b (step b (meaning b m) c) m said m′
-      → Put old to (saidLine said) new at → at ≤ to + 691 → Plays b m line old to new at m′
+      → Put old to (saidLine said) new at → at ≤ to + longestAnswer → Plays b m line old to new at m′
   unfolding replyTo Follows
   plays-call c {m′ = m′} e d p h =
       played e (put-as (ap saidLine (d .says)) p) (subst (λ (s : Said). Does b (step b (meaning b m) c) m s m′) (d .says) d) h

@@ -1,2 +1,2 @@
 pub mod Talk
-pub mod Aim
+pub mod Parts

@@ -1,14 +1,12 @@
-// A line of the console: aimed, and played at its own list or reader. The state stays where it lies: its owner takes the parts out and puts
-// them back.
-pub mod aim;
-
-use crate::aim::Aside;
-use crate::aim::Ask;
-use crate::aim::Order;
-use crate::aim::Want;
+// A line of the console that was aimed: played at its own list, at its reader or at the gateway. The state stays where it lies: its owner
+// takes the parts out and puts them back.
 use acts::governed;
 use acts::looked;
 use acts::obeyed;
+use aiming::Aside;
+use aiming::Ask;
+use aiming::Order;
+use aiming::Want;
 use command::command_data;
 use dialogout::put_handed;
 use dialogout::put_said;
@@ -35,7 +33,7 @@ ghost use Rattle.meaning.specs.Call.{command, step};
 ghost use Rattle.settle.specs.Settled.{Seatable, Seats, Houseable, Houses};
 ghost use Rattle.handover.specs.Handed.{Listable};
 ghost use Rattle.text.specs.Text.{Put};
-ghost use Rattle.talk.specs.Aim.{asked, Orders, Asks, asideLine, Lies, Shows, TellsAt};
+ghost use Rattle.talk.specs.Parts.{asked, Orders, Asks, asideLine, Lies, Shows, TellsAt};
 ghost use Rattle.dialog.specs.Dialog.{longestAnswer};
 
 // What is no call, or a call that is refused by what it says: said, and nothing changes.

@@ -5,13 +5,8 @@ use Rattle.units.proofs.Common.{_^_, _/_, add-one, ℕ-discrete, arith, ltb, le
 use Rattle.units.proofs.Common.{slice, take-at, drop-at, drop-cons, sets-eq, le-ltb, lt-ltb, yes-cond, no-cond}
 use native.Mathlib.Nat.{pow-succ', mod-eq-of-lt, add-mul-mod-self-left}
 use lib.Seq.{length-sets, set-set}
+use Rattle.units.proofs.PackingLaws.{sets-append}
 use Rattle.text.specs.Text.{Put, digitOf, hexOf, byteHexOf, bytesHexOf, decimalWithin, decimalOf, wordsLine}
-
-sets-append : (l : List ℕ) (i : ℕ) (vs ws : List ℕ) → sets l i (vs ++ ws) ≡ sets (sets l i vs) (i + length vs) ws
-sets-append l i [] ws = ap (λ (k : ℕ). sets l k ws) (omega arith)
-sets-append l i (v ∷ vs) ws =
-    sets-append (set l i v) (suc i) vs ws
-    ∙ ap (λ (k : ℕ). sets (sets (set l i v) (suc i) vs) k ws) (omega arith)
 
 -- what is still to be written after a text gives the whole
 put-rest : {o o₁ t : List ℕ} {at r : ℕ} (rest : List ℕ) → Put o at t o₁ r → sets o₁ r rest ≡ sets o at (t ++ rest)

@@ -14,7 +14,7 @@ pub use lib.ListN.{length, drop, getD, take, set, length-drop, replicate, length
 pub use lib.ListN.{length-replicate, length-take, List·getD-map, List·getD-append, take-append-drop, List·getD-eq-default}
 pub use lib.Seq.{length-take-le, take-all, sets, getD-drop, paste, drop-drop, slice, take-at, drop-at, take-suc, drop-cons, getD-take}
 pub use lib.Seq.{ext-getD, set-getD, take-add, take-nil, take-suc-set, paste-suc, getD-set-same, getD-append-add, set-split, sets-eq}
-pub use lib.Seq.{take-take}
+pub use lib.Seq.{take-take, length-sets}
 pub use denote.Ref.{now, NamedLft, RefT}
 pub use borrow.Author.Tests.{eq-eqb, ne-eqb, le-leb, not-false, not-true, eqb-true, leb-true, lt-leb, le-ltb, ltb-false, lt-ltb, eqb-false}
 pub use borrow.Author.Tests.{ltb-true}

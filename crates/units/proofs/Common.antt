@@ -8,14 +8,14 @@ pub use Rattle.units.proofs.Base.{replicate, length-set, drop-of-length
 pub use Rattle.units.proofs.Base.{List·getD-map, List·getD-append, take-append-drop, List·getD-eq-default, length-take-le, take-all}
 pub use Rattle.units.proofs.Base.{sets, getD-drop, paste, drop-drop, slice, take-at, drop-at, take-suc, drop-cons, getD-take}
 pub use Rattle.units.proofs.Base.{ext-getD, set-getD, take-add, take-nil, take-suc-set, paste-suc, getD-set-same, getD-append-add}
-pub use Rattle.units.proofs.Base.{set-split, sets-eq, take-take, now, NamedLft, RefT, eq-eqb, ne-eqb, le-leb, not-false, not-true}
+pub use Rattle.units.proofs.Base.{set-split, sets-eq, length-sets, take-take, now, NamedLft, RefT, eq-eqb, ne-eqb, le-leb, not-false}
+pub use Rattle.units.proofs.Base.{not-true}
 pub use Rattle.units.proofs.Base.{eqb-true, leb-true, lt-leb, le-ltb, ltb-false, lt-ltb, eqb-false, ltb-true, needs}
 unfoldable pub use Rattle.units.specs.Count.{every}
 pub use Rattle.units.specs.Count.{within}
-unfoldable pub use Rattle.units.specs.Packing.{onto}
 pub use Rattle.units.specs.Packing.{bytesOf, packed}
 unfoldable pub use Rattle.units.specs.Stamp.{isStamp}
 pub use Rattle.units.specs.Word.{word, lsb}
 pub use Rattle.units.proofs.Arms.{keys}
 pub use Rattle.units.proofs.Choice.{yes-cond, no-cond, yes-and, no-and, and-true, no-or, yes-or, or-false}
-pub use Rattle.units.proofs.PackingLaws.{length-packed, length-onto}
+pub use Rattle.units.proofs.PackingLaws.{length-packed}

@@ -6,7 +6,7 @@ use Rattle.meaning.proofs.Terms.{full, hub, done, quiet}
 use Rattle.demands.specs.Sound.{full-sound}
 use Rattle.state.proofs.Terms.{Machine, machine, nodeSlot}
 use Rattle.state.specs.declared.State.{State}
-use Rattle.promise.specs.Obeyed.{spoken}
+use Rattle.promise.specs.Obeyed.{saidOf}
 use Rattle.asking.proofs.Accepting.{heeded, names, steps-hub}
 use Rattle.asking.proofs.Asking.{took, plays-refused, plays-answered, waits-there, plays-handed, slot-at}
 use Rattle.asking.proofs.hub_turn.Statement.{statement}
@@ -61,7 +61,7 @@ returns-2 c x memory w fit =
     (slot-at _ (took fit z .fit) (full .readers) (omega arith)) (h .hand-over .result) (h .hand-over .ensures) _ refl
 
 returns-3 : tie.Need-returns-3
-unfolding spoken
+unfolding saidOf
 returns-3 c x memory w fit =
     let o = c .before .before .before .before in
     let d = o .before .before in
@@ -69,10 +69,10 @@ returns-3 c x memory w fit =
     let a = s .args in
     let q = steps-hub (s .pre .0 .0) (d .command-data .ensures) (s .pre .0 .1) (o .governed .result) (o .governed .ensures) in
     plays-answered full (on s x memory) _ (a .t) (now (a .words)) fit (o .governed .result .reply) (q x memory w fit) done
-    (ap spoken (c .enum-told2 .given .1)) (now (a .out)) (a .to)
+    (ap saidOf (c .enum-told2 .given .1)) (now (a .out)) (a .to)
 
 returns-4 : tie.Need-returns-4
-unfolding spoken
+unfolding saidOf
 returns-4 c x memory w fit =
     let o = c .before .before .before .before in
     let d = o .before .before in
@@ -80,7 +80,7 @@ returns-4 c x memory w fit =
     let a = s .args in
     let q = steps-hub (s .pre .0 .0) (d .command-data .ensures) (s .pre .0 .1) (o .governed .result) (o .governed .ensures) in
     plays-answered full (on s x memory) _ (a .t) (now (a .words)) fit (o .governed .result .reply) (q x memory w fit) quiet
-    (ap spoken (c .enum-told3 .given .1)) (now (a .out)) (a .to)
+    (ap saidOf (c .enum-told3 .given .1)) (now (a .out)) (a .to)
 
 pub hub-turn-spec : {M : Type 1} → statement M
 hub-turn-spec = tie.close (tie.spec (λ c κs. search needs)

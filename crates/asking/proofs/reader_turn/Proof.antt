@@ -6,7 +6,7 @@ use Rattle.meaning.proofs.Terms.{full, done, quiet}
 use Rattle.demands.specs.Sound.{full-sound}
 use Rattle.state.proofs.Terms.{Machine, machine}
 use Rattle.state.specs.declared.State.{State}
-use Rattle.promise.specs.Obeyed.{spoken}
+use Rattle.promise.specs.Obeyed.{saidOf}
 use Rattle.promise.proofs.Tables.{reader-range, reader-slot}
 use Rattle.asking.proofs.Accepting.{orderly, names, steps-reader}
 use Rattle.asking.proofs.Asking.{plays-refused, plays-answered, waits-there, plays-handed, slot-seated, seated-again}
@@ -59,7 +59,7 @@ returns-2 c x w fit =
     (seated-again x (a .m .node) (o .obeyed .result) _ _)
 
 returns-3 : tie.Need-returns-3
-unfolding spoken
+unfolding saidOf
 returns-3 c x w fit =
     let o = c .before .before .before .before .before .before in
     let d = o .before .before .before in
@@ -67,10 +67,10 @@ returns-3 c x w fit =
     let a = s .args in
     let q = steps-reader (s .pre .0 .0) (d .command-data .ensures) (s .pre .0 .1 .is) (o .obeyed .result) (o .obeyed .ensures) in
     plays-answered full (on s x) _ (a .t) (now (a .words)) fit (o .obeyed .result .reply) (q x w fit) done
-    (ap spoken (c .enum-told2 .given .1)) (now (a .out)) (a .to)
+    (ap saidOf (c .enum-told2 .given .1)) (now (a .out)) (a .to)
 
 returns-4 : tie.Need-returns-4
-unfolding spoken
+unfolding saidOf
 returns-4 c x w fit =
     let o = c .before .before .before .before .before .before in
     let d = o .before .before .before in
@@ -78,7 +78,7 @@ returns-4 c x w fit =
     let a = s .args in
     let q = steps-reader (s .pre .0 .0) (d .command-data .ensures) (s .pre .0 .1 .is) (o .obeyed .result) (o .obeyed .ensures) in
     plays-answered full (on s x) _ (a .t) (now (a .words)) fit (o .obeyed .result .reply) (q x w fit) quiet
-    (ap spoken (c .enum-told3 .given .1)) (now (a .out)) (a .to)
+    (ap saidOf (c .enum-told3 .given .1)) (now (a .out)) (a .to)
 
 pub reader-turn-spec : {M : Type 1} → statement M
 reader-turn-spec = tie.close (tie.spec (λ c κs. search needs)

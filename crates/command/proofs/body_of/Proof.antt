@@ -4,13 +4,6 @@ use Rattle.meaning.specs.Command.{bodyOf}
 use Rattle.command.proofs.body_of.Statement.{statement}
 use Rattle.command.proofs.body_of.Tie as tie
 
-enum-told : tie.Need-enum-told
-enum-told c = search needs
-
-returns : tie.Need-returns
-unfolding bodyOf
-returns c = rw (c .enum-told .given .1)
-
 returns-2 : tie.Need-returns-2
 unfolding bodyOf
 returns-2 c =
@@ -25,5 +18,6 @@ returns-3 c =
     (drop-of-length-le w {i = 1} (omega arith)))
 
 pub body-of-spec : {M : Type 1} → statement M
-body-of-spec = tie.close (tie.spec enum-told (λ c. search needs) (λ c. search needs) (λ c. search needs) (λ c. search needs) returns
-    returns-2 returns-3)
+unfolding bodyOf
+body-of-spec = tie.close (tie.spec (λ c. search needs) (λ c. search needs) (λ c. search needs) (λ c. search needs) (λ c. search needs)
+    (λ c. rw (c .enum-told .given .1)) returns-2 returns-3)

@@ -4,9 +4,7 @@ use Rattle.units.proofs.Common.{needs}
 use Rattle.command.proofs.command_data.Statement.{statement}
 use Rattle.command.proofs.command_data.Tie as tie
 
-returns : tie.Need-returns
-unfolding commandData
-returns c = rw (← (c .before .body-of .ensures)) (c .data-words .ensures)
-
 pub command-data-spec : {M : Type 1} → statement M
-command-data-spec = tie.close (tie.spec (λ c κs. search needs) (λ c κs. search needs) returns)
+unfolding commandData
+command-data-spec = tie.close (tie.spec (λ c κs. search needs) (λ c κs. search needs)
+    (λ c. rw (← (c .before .body-of .ensures)) (c .data-words .ensures)))

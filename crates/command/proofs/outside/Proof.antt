@@ -5,10 +5,6 @@ use Rattle.meaning.specs.Command.{outside}
 use Rattle.command.proofs.outside.Statement.{statement}
 use Rattle.command.proofs.outside.Tie as tie
 
-returns : tie.Need-returns
-unfolding outside
-returns c = sym (no-and _ (ap not (eq-eqb _ _ (c .if1 .taken))))
-
 returns-2 : tie.Need-returns-2
 unfolding outside
 returns-2 c = sym (yes-and (ap not (ne-eqb _ _ (c .before .before .if1 .left))) ∙ ap not (no-and _ (lt-leb _ _ (c .if2 .taken))))
@@ -21,4 +17,5 @@ returns-3 c =
     (yes-and (le-leb _ _ (c .before .if2 .left))))
 
 pub outside-spec : {M : Type 1} → statement M
-outside-spec = tie.close (tie.spec returns returns-2 returns-3)
+unfolding outside
+outside-spec = tie.close (tie.spec (λ c. sym (no-and _ (ap not (eq-eqb _ _ (c .if1 .taken))))) returns-2 returns-3)

@@ -4,18 +4,12 @@ use Rattle.meaning.proofs.Terms.{rangeWrong}
 use Rattle.command.proofs.past_region.Statement.{statement}
 use Rattle.command.proofs.past_region.Tie as tie
 
-returns : tie.Need-returns
-unfolding rangeWrong
-returns c = sym (yes-or _ (lt-ltb _ _ (c .if1 .taken)))
-
-returns-2 : tie.Need-returns-2
-unfolding rangeWrong
-returns-2 c = sym (no-or (le-ltb _ _ (c .before .before .if1 .left)) ∙ no-and _ (ne-eqb _ _ (c .if2 .taken)))
-
 returns-3 : tie.Need-returns-3
 unfolding rangeWrong
 returns-3 c = sym (no-or (le-ltb _ _ (c .before .before .before .if1 .left)) ∙ yes-and (eq-eqb _ _ (c .before .if2 .left)))
 
 pub past-region-spec : {M : Type 1} → statement M
-past-region-spec = tie.close (tie.spec (λ c. search needs) (λ c. search needs) (λ c. search needs) (λ c. search needs) returns returns-2
-    returns-3)
+unfolding rangeWrong
+past-region-spec = tie.close (tie.spec (λ c. search needs) (λ c. search needs) (λ c. search needs) (λ c. search needs)
+    (λ c. sym (yes-or _ (lt-ltb _ _ (c .if1 .taken))))
+    (λ c. sym (no-or (le-ltb _ _ (c .before .before .if1 .left)) ∙ no-and _ (ne-eqb _ _ (c .if2 .taken)))) returns-3)

@@ -4,13 +4,6 @@ use Rattle.meaning.specs.Command.{stray}
 use Rattle.command.proofs.stray.Statement.{statement}
 use Rattle.command.proofs.stray.Tie as tie
 
-returns : tie.Need-returns
-unfolding stray
-returns c = sym (yes-and (eq-eqb _ _ (c .if1 .taken)))
-
-returns-2 : tie.Need-returns-2
-unfolding stray
-returns-2 c = sym (no-and _ (ne-eqb _ _ (c .if1 .left)))
-
 pub stray-spec : {M : Type 1} → statement M
-stray-spec = tie.close (tie.spec returns returns-2)
+unfolding stray
+stray-spec = tie.close (tie.spec (λ c. sym (yes-and (eq-eqb _ _ (c .if1 .taken)))) (λ c. sym (no-and _ (ne-eqb _ _ (c .if1 .left)))))

@@ -1,6 +1,6 @@
 -- Six words and then the data, each written behind the last.
-use Rattle.units.proofs.Common.{_∙_, refl, [], _∷_, arith, length-set, sets-eq, now, needs}
-use Rattle.units.proofs.Tails.{tail-packed}
+use Rattle.units.proofs.Common.{_∙_, List, [], _∷_, ℕ, arith, length-set, sets, now, needs, packed}
+use Rattle.units.proofs.Tails.{tail-sets}
 use Rattle.meaning.specs.Command.{commandBody}
 use Rattle.commandout.proofs.put_body.Statement.{statement}
 use Rattle.commandout.proofs.put_body.Tie as tie
@@ -13,10 +13,9 @@ unfolding commandBody
 returns c =
     let p = c .before .before .before .before in let s = p .before .before .before .before .before in
     let a = s .args in
-    let six = p .before .before .overall .result .0 ∷ p .before .word .result ∷ p .word2 .result ∷ a .m .word4 ∷ a .m .start ∷ a .m .size ∷
-    [] in
-    tail-packed 6 (now (a .out)) _ (now (a .bytes)) six _ refl (sets-eq six (now (a .out)) 0 (omega arith)) (simp length-set (omega arith))
-    (c .before .before .pack .ensures)
+    let w : List ℕ = p .before .before .overall .result .0 ∷ p .before .word .result ∷ p .word2 .result ∷ a .m .word4 ∷ a .m .start ∷
+    a .m .size ∷ [] in
+    tail-sets 6 (sets (now (a .out)) 0 w) (packed (now (a .bytes))) _ (c .before .before .pack .ensures)
     ∙ rw (p .before .before .overall .ensures, p .before .word .ensures, p .word2 .ensures)
 
 pub put-body-spec : {M : Type 1} → statement M

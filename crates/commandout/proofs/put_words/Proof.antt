@@ -1,9 +1,7 @@
 -- Word 00 in framed form, and the body behind it.
-use Rattle.units.proofs.Common.{_∙_, refl, [], _∷_, _≤_, _+_, arith, length, set, length-set, set-split, now, needs}
+use Rattle.units.proofs.Common.{_∙_, _≤_, _+_, arith, length, set, length-set, now, needs}
 use Rattle.meaning.proofs.Terms.{overall, headedCount}
-use Rattle.commandout.proofs.Writable.{behind}
-use Rattle.units.specs.declared.Form.the-variants.{Register, Framed}
-use Rattle.units.proofs.Tails.{tail-written, tail-length}
+use Rattle.units.proofs.Tails.{tail-sets, tail-length}
 use Rattle.meaning.specs.Command.{commandWords, headed, commandBody}
 use Rattle.commandout.proofs.put_words.Statement.{statement}
 use Rattle.commandout.proofs.put_words.Tie as tie
@@ -44,7 +42,7 @@ returns : tie.Need-returns
 unfolding headedCount commandWords headed
 returns c =
     let p = c .before .before .before .before in let a = p .before .before .before .before .args in
-    rw (p .enum-told .given .1) (c .before .before .put-body .ensures ∙ behind Register (a .m) (now (a .bytes)) (now (a .out)))
+    rw (p .enum-told .given .1) (c .before .before .put-body .ensures)
 
 same-length-2 : tie.Need-same-length-2
 same-length-2 c = c .before .out2 .given .1 ∙ simp length-set
@@ -55,10 +53,8 @@ returns-2 c =
     let p = c .before .before .before .before in let s = p .before .before .before .before .before in
     rw (p .before .enum-told2 .given .1)
     (let a = s .args in
-    let h = framed (p .before) in
-    tail-written 1 (overall (length (now (a .bytes)))) (now (a .out)) _ (commandBody (a .m) (now (a .bytes))) (p .word .result ∷ []) _ refl
-    (set-split (now (a .out)) 0 _ (omega arith)) (c .before .before .put-body2 .ensures)
-    ∙ rw (p .word .ensures) (behind Framed (a .m) (now (a .bytes)) (now (a .out))))
+    tail-sets 1 (set (now (a .out)) 0 (p .word .result)) (commandBody (a .m) (now (a .bytes))) _ (c .before .before .put-body2 .ensures)
+    ∙ rw (p .word .ensures))
 
 pub put-words-spec : {M : Type 1} → statement M
 put-words-spec = tie.close (tie.spec enum-told put-body-requires (λ c. search needs) (λ c κs. search needs) slice-write-out sub-put-body

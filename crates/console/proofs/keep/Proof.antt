@@ -1,6 +1,6 @@
 -- A byte is written where one further on was read: both are inside.
 -- Assumes nothing.
-use Rattle.units.proofs.Common.{_∙_, _≡_, refl, _≤_, _-_, arith, length, length-set, needs}
+use Rattle.units.proofs.Common.{_≡_, refl, _≤_, _-_, arith, length, length-set, needs}
 use Rattle.console.proofs.keep.Statement.{statement}
 use Rattle.console.proofs.keep.Tie as tie
 

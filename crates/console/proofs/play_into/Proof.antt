@@ -1,6 +1,6 @@
 -- What is lent to a call comes back as long as it was, and the machine stays consistent.
 -- Assumes nothing.
-use Rattle.units.proofs.Common.{sym, _∙_, _≡_, refl, ℕ, _≤_, _-_, arith, length, replicate, length-replicate, length-take-le, needs}
+use Rattle.units.proofs.Common.{sym, _≡_, refl, ℕ, _≤_, _-_, arith, length, replicate, length-replicate, length-take-le, needs}
 use Rattle.meaning.proofs.Terms.{full}
 use Rattle.state.proofs.Terms.{machine, unfit}
 use Rattle.promise.proofs.Parts.{parts}
@@ -21,7 +21,7 @@ loop-holds c = (
   length-replicate {A = ℕ} 6449 0,
   omega arith,
   refl,
-  blank-fit _ (replicate 4096 0) _ (length-replicate {A = ℕ} 4096 0) (c .before .fresh .ensures),
+  blank-fit _ (replicate (full .store) 0) _ (length-replicate {A = ℕ} (full .store) 0) (c .before .fresh .ensures),
 )
 
 -- ---- a piece is heard

@@ -1,6 +1,6 @@
 -- From the end on, byte by byte.
 -- Assumes nothing.
-use Rattle.units.proofs.Common.{_≤_, arith, length, needs}
+use Rattle.units.proofs.Common.{_≤_, arith, length}
 use Rattle.console.proofs.whole_lines.Statement.{statement}
 use Rattle.console.proofs.whole_lines.Tie as tie
 

@@ -3,22 +3,22 @@ use Rattle.units.proofs.Common.{sym, _∙_, _≡_, refl, ap, List, _++_, ℕ, _
 use Rattle.units.proofs.Common.{take-all, needs}
 use Rattle.placed.proofs.InOrder.{blank, node-any}
 use Rattle.state.proofs.Lists.{length-mapped}
-use Rattle.moves.specs.Moved.{putIn}
-use Rattle.moves.proofs.Moves.{length-put, put-none}
+use lib.Seq.{sets, length-sets}
+use Rattle.units.proofs.PackingLaws.{sets-append}
 use Rattle.convert.specs.Convert.{runsOf}
-use Rattle.convert.proofs.Loops.{run, put-more, length-run, runs-more, runs-fewer}
+use Rattle.convert.proofs.Loops.{run, length-run, runs-more, runs-fewer}
 use Rattle.convert.proofs.lay.Statement.{statement}
 use Rattle.convert.proofs.lay.Tie as tie
 
 abbrev Inv-loop : tie.InvT-loop
 Inv-loop store out₀ nodes to₀ k₀ out to k =
-    (k ≤ 17) × (length out ≡ length out₀) × (to ≡ length (runsOf store (take k nodes))) × (out ≡ putIn out₀ 0 (runsOf store (take k nodes)))
+    (k ≤ 17) × (length out ≡ length out₀) × (to ≡ length (runsOf store (take k nodes))) × (out ≡ sets out₀ 0 (runsOf store (take k nodes)))
 
 abbrev μ-loop : tie.MeasureT-loop
 μ-loop store out₀ nodes to₀ k₀ out to k = 17 - k
 
-nodes17 : (c : tie.Start Inv-loop μ-loop) → length (c .args .t1) ≡ 17
-nodes17 c = search (needs, length-mapped)
+nodes-each : (c : tie.Start Inv-loop μ-loop) → length (c .args .t1) ≡ 17
+nodes-each c = search (needs, length-mapped)
 
 -- the list that the loop is at lies inside the store, and its words have room behind those laid
 turn : (c : tie.In-loop Inv-loop μ-loop)
@@ -34,7 +34,7 @@ turn c =
     let s = c .before .before .before .before in
     let a = s .args in
     let k = c .before .loop .k in
-    let h = nodes17 s in
+    let h = nodes-each s in
     let st = a .store .now in
     let n = getD (a .t1) k blank in
     let i : n .list .place + n .list .words .0 ≤ length st = rw (node-any (a .t1) k (omega arith)) (s .pre .0 k (omega arith)) in
@@ -43,19 +43,6 @@ turn c =
     let g = ap length m ∙ length-append (runsOf st (take k (a .t1))) (run st n) in
     let t : c .before .loop .to + n .list .words .0 ≡ length (runsOf st (take (k + 1) (a .t1))) = omega (arith, c .before .loop .inv .2) in
     (i, m, r, t, omega (arith, runs-fewer st (a .t1) (k + 1), s .pre .1))
-
-loop-holds : tie.Need-loop-holds Inv-loop μ-loop
-unfolding runsOf
-loop-holds c = (omega arith, refl, refl, put-none _ _)
-
-add-end : tie.Need-add-end Inv-loop μ-loop
-add-end c = record { fits = omega (arith, turn (c .before .before .before) .0) }
-
-mul-copy-in : tie.Need-mul-copy-in Inv-loop μ-loop
-mul-copy-in c = record { fits = omega (arith, turn (c .before .before .before) .0) }
-
-part-copy-in-end : tie.Need-part-copy-in-end Inv-loop μ-loop
-part-copy-in-end c = omega (arith, turn (c .before .before .before) .0)
 
 copy-in-requires : tie.Need-copy-in-requires Inv-loop μ-loop
 copy-in-requires c κs =
@@ -76,23 +63,27 @@ loop-again c =
     let n = getD (a .t1) (l .k) blank in
     let t = turn (c .before .before .before .before .before .before .before .before .before) in
     let d : (n .list .place + n .list .words .0) - n .list .place ≡ n .list .words .0 = omega arith in
-    let e = c .before .before .before .copy-in .ensures ∙ ap (λ (k : ℕ). putIn (l .out) (l .to) (take k (drop (n .list .place) st))) d in
+    let e = c .before .before .before .copy-in .ensures ∙ ap (λ (k : ℕ). sets (l .out) (l .to) (take k (drop (n .list .place) st))) d in
     let runs = runsOf st (take (l .k) (a .t1)) in (
       omega arith,
-      ap length e ∙ length-put (l .out) (l .to) (run st n) (omega (arith, t .2, t .4, l .inv .1)) ∙ l .inv .1,
+      ap length e ∙ length-sets (l .out) (l .to) (run st n) ∙ l .inv .1,
       t .3,
-      e ∙ ap (λ (o : List ℕ). putIn o (l .to) (run st n)) (l .inv .3)
-          ∙ put-more (a .out .now) 0 runs (run st n) (l .to) (omega (arith, l .inv .2)) (omega (arith, t .2, t .4))
-          ∙ ap (putIn (a .out .now) 0) (sym (t .1)),
+      e ∙ ap (λ (o : List ℕ). sets o (l .to) (run st n)) (l .inv .3)
+          ∙ ap (λ (k : ℕ). sets (sets (a .out .now) 0 runs) k (run st n)) (omega (arith, l .inv .2))
+          ∙ sym (sets-append (a .out .now) 0 runs (run st n))
+          ∙ ap (sets (a .out .now) 0) (sym (t .1)),
     )
 
 returns : tie.Need-returns Inv-loop μ-loop
 returns c =
     let ns = c .before .before .before .before .args .t1 in
-    let n = nodes17 (c .before .before .before .before) in
+    let n = nodes-each (c .before .before .before .before) in
     rw (take-all (c .before .loop .k) ns (omega arith)) at (c .before .loop .inv .3)
 
 pub lay-spec : {M : Type 1} → statement M
-lay-spec = tie.close (tie.spec Inv-loop μ-loop loop-holds (λ c. search needs) (λ c. search needs) (λ c. search needs) add-end
-    mul-copy-in (λ c. search needs) (λ c. search needs) part-copy-in-end copy-in-requires (λ c. search needs) add-to (λ c. search needs)
+unfolding runsOf
+lay-spec = tie.close (tie.spec Inv-loop μ-loop (λ c. (omega arith, refl, refl, refl)) (λ c. search needs) (λ c. search needs)
+    (λ c. search needs) (λ c. record { fits = omega (arith, turn (c .before .before .before) .0) })
+    (λ c. record { fits = omega (arith, turn (c .before .before .before) .0) }) (λ c. search needs) (λ c. search needs)
+    (λ c. omega (arith, turn (c .before .before .before) .0)) copy-in-requires (λ c. search needs) add-to (λ c. search needs)
     (λ c. search needs) loop-again (λ c. search needs) returns)

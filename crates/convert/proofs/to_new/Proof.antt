@@ -4,7 +4,7 @@ use Rattle.units.specs.declared.Words.{Words}
 use Rattle.meaning.proofs.Terms.{full}
 use Rattle.state.specs.Machine as N
 use Rattle.state.specs.declared.node.Node.{Node}
-use Rattle.moves.specs.Moved.{putIn}
+use lib.Seq.{sets}
 use Rattle.placed.specs.Machine.{Machine, machine}
 use Rattle.placed.specs.Consistent.{unfit}
 use Rattle.placed.proofs.Parts.{Parts, parts}
@@ -77,7 +77,7 @@ returns-2 c =
     let ns = s .args .s .nodes in
     let z : replicate {A = ℕ} 4096 0 ≡ replicate (length st) 0 = ap (λ (n : ℕ). replicate n 0) (sym (known e .store)) in
     let w : p .copy-in .last .1 .0 ≡ newStore st ns =
-    p .copy-in .ensures ∙ ap (putIn st 0) (q .lay .ensures) ∙ ap (λ (v : List ℕ). putIn st 0 (putIn v 0 (runsOf st ns))) z
+    p .copy-in .ensures ∙ ap (sets st 0) (q .lay .ensures) ∙ ap (λ (v : List ℕ). sets st 0 (sets v 0 (runsOf st ns))) z
     ∙ new-is st ns (omega (arith, room e, known e .store)) in
     record {
       number = sym (fits e);

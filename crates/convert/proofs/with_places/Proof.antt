@@ -20,23 +20,19 @@ Inv-loop nodes held ns₀ to₀ k₀ ns to k =
 abbrev μ-loop : tie.MeasureT-loop
 μ-loop nodes held ns₀ to₀ k₀ ns to k = 17 - k
 
-nodes17 : (c : tie.Start Inv-loop μ-loop) → length (c .args .t1) ≡ 17
-nodes17 c = search (needs, length-mapped)
+nodes-each : (c : tie.Start Inv-loop μ-loop) → length (c .args .t1) ≡ 17
+nodes-each c = search (needs, length-mapped)
 
-held17 : (c : tie.Start Inv-loop μ-loop) → length (c .args .t2) ≡ 17
-held17 c = search (needs, length-mapped)
+held-each : (c : tie.Start Inv-loop μ-loop) → length (c .args .t2) ≡ 17
+held-each c = search (needs, length-mapped)
 
 -- the words of one node more
 more : (c : tie.Start Inv-loop μ-loop) (k : ℕ) → k < 17 → placeOf (counts (c .args .t2)) (k + 1) ≡ placeOf (counts (c .args .t2)) k + getD
     (c .args .t2) k nothing .0
 more c k h =
     let hs : List Words = c .args .t2 in
-    let l : length (counts hs) ≡ 17 = length-map hs (λ (w : Words). w .0) ∙ held17 c in
+    let l : length (counts hs) ≡ 17 = length-map hs (λ (w : Words). w .0) ∙ held-each c in
     place-suc (counts hs) k (omega arith) ∙ ap (λ (x : ℕ). placeOf (counts hs) k + x) (List·getD-map (λ (w : Words). w .0) hs k nothing)
-
-loop-holds : tie.Need-loop-holds Inv-loop μ-loop
-unfolding oldNodes sum
-loop-holds c = (omega arith, ap length (c .silent-placed .ensures), refl, refl)
 
 add-to : tie.Need-add-to Inv-loop μ-loop
 add-to c =
@@ -62,7 +58,7 @@ loop-again c =
       omega arith,
       simp length-set (l .inv .1),
       omega (arith, more s (l .k) (omega arith), l .inv .2),
-      old-filled ns hs (l .ns) (l .k) (l .to) blank nothing _ (omega (arith, nodes17 s)) (held17 s ∙ sym (nodes17 s))
+      old-filled ns hs (l .ns) (l .k) (l .to) blank nothing _ (omega (arith, nodes-each s)) (held-each s ∙ sym (nodes-each s))
           (omega (arith, l .inv .1)) (l .inv .2) (l .inv .3) (rw p),
     )
 
@@ -70,13 +66,15 @@ returns : tie.Need-returns Inv-loop μ-loop
 returns c =
     let l = c .before .loop in
     let s = c .before .before .before in
-    let n = nodes17 s in
-    let h = held17 s in
+    let n = nodes-each s in
+    let h = held-each s in
     sym (take-all (l .k) (l .ns) (omega (arith, l .inv .1))) ∙ l .inv .3
     ∙ ap (λ (x : List Node). oldNodes 0 x (take (l .k) (s .args .t2))) (take-all (l .k) (s .args .t1) (omega arith))
     ∙ ap (oldNodes 0 (s .args .t1)) (take-all (l .k) (s .args .t2) (omega arith))
 
 pub with-places-spec : {M : Type 1} → statement M
-with-places-spec = tie.close (tie.spec Inv-loop μ-loop (λ c κs. search needs) loop-holds (λ c. search needs) (λ c. search needs)
-    (λ c. search needs) (λ c. search needs) (λ c. search needs) (λ c. search needs) (λ c. search needs) (λ c. search needs) add-to
-    (λ c. search needs) (λ c. search needs) loop-again returns)
+unfolding oldNodes sum
+with-places-spec = tie.close (tie.spec Inv-loop μ-loop (λ c κs. search needs)
+    (λ c. (omega arith, ap length (c .silent-placed .ensures), refl, refl)) (λ c. search needs) (λ c. search needs) (λ c. search needs)
+    (λ c. search needs) (λ c. search needs) (λ c. search needs) (λ c. search needs) (λ c. search needs) add-to (λ c. search needs)
+    (λ c. search needs) loop-again returns)

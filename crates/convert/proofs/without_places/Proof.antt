@@ -13,17 +13,14 @@ Inv-loop nodes ns₀ k₀ ns k = (k ≤ 17) × (length ns ≡ 17) × (take k ns 
 abbrev μ-loop : tie.MeasureT-loop
 μ-loop nodes ns₀ k₀ ns k = 17 - k
 
-nodes17 : (c : tie.Start Inv-loop μ-loop) → length (c .args .t1) ≡ 17
-nodes17 c = search (needs, length-mapped)
-
-loop-holds : tie.Need-loop-holds Inv-loop μ-loop
-loop-holds c = (omega arith, ap length (c .silent .ensures), refl)
+nodes-each : (c : tie.Start Inv-loop μ-loop) → length (c .args .t1) ≡ 17
+nodes-each c = search (needs, length-mapped)
 
 cast-t14 : tie.Need-cast-t14 Inv-loop μ-loop
 cast-t14 c =
     let s = c .before .before .before .before .before .before in
     let k = c .before .before .before .before .loop .k in
-    let n = nodes17 s in
+    let n = nodes-each s in
     let e = node-any (s .args .t1) k (omega arith) in
     record { fits = rw e (omega (arith, s .pre k (omega arith))) }
 
@@ -31,7 +28,7 @@ loop-again : tie.Need-loop-again Inv-loop μ-loop
 loop-again c =
     let l = c .before .before .before .before .loop in
     let ns = c .before .before .before .before .before .before .args .t1 in
-    let n = nodes17 (c .before .before .before .before .before .before) in
+    let n = nodes-each (c .before .before .before .before .before .before) in
     let e = l .inv .1 in
     (omega arith, simp length-set e, map-filled newNode ns (l .ns) (l .k) blank _ (omega arith) (omega arith) (l .inv .2) refl)
 
@@ -39,9 +36,10 @@ returns : tie.Need-returns Inv-loop μ-loop
 returns c =
     let l = c .before .loop in
     let ns = c .before .before .before .args .t1 in
-    let n = nodes17 (c .before .before .before) in
+    let n = nodes-each (c .before .before .before) in
     sym (take-all (l .k) (l .ns) (omega (arith, l .inv .1))) ∙ l .inv .2 ∙ ap (map newNode) (take-all (l .k) ns (omega arith))
 
 pub without-places-spec : {M : Type 1} → statement M
-without-places-spec = tie.close (tie.spec Inv-loop μ-loop (λ c κs. search needs) loop-holds (λ c. search needs) (λ c. search needs)
-    cast-t14 (λ c. search needs) (λ c. search needs) (λ c. search needs) (λ c. search needs) loop-again returns)
+without-places-spec = tie.close (tie.spec Inv-loop μ-loop (λ c κs. search needs) (λ c. (omega arith, ap length (c .silent .ensures), refl))
+    (λ c. search needs) (λ c. search needs) cast-t14 (λ c. search needs) (λ c. search needs) (λ c. search needs) (λ c. search needs)
+    loop-again returns)

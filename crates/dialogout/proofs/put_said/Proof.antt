@@ -1,6 +1,6 @@
 -- Each case writes its own line; a refusal its number too.
 -- Assumes nothing.
-use Rattle.promise.specs.Obeyed.{spoken}
+use Rattle.promise.specs.Obeyed.{saidOf}
 use Rattle.dialog.specs.Dialog.{saidLine}
 use Rattle.units.proofs.Common.{needs}
 use Rattle.dialogout.proofs.put_said.Statement.{statement}
@@ -10,19 +10,19 @@ enum-told : tie.Need-enum-told
 enum-told c = search needs
 
 returns : tie.Need-returns
-unfolding spoken saidLine
+unfolding saidOf saidLine
 returns c = rw (c .before .before .before .before .before .reply .given .1) (c .before .before .put-refused .ensures)
 
 returns-2 : tie.Need-returns-2
-unfolding spoken saidLine
+unfolding saidOf saidLine
 returns-2 c = rw (c .before .before .before .before .before .enum-told .given .1) (c .before .before .put-text .ensures)
 
 returns-3 : tie.Need-returns-3
-unfolding spoken saidLine
+unfolding saidOf saidLine
 returns-3 c = rw (c .before .before .before .before .before .enum-told2 .given .1) (c .before .before .put-text2 .ensures)
 
 returns-4 : tie.Need-returns-4
-unfolding spoken saidLine
+unfolding saidOf saidLine
 returns-4 c = rw (c .before .before .before .before .before .enum-told3 .given .1) (c .before .before .put-text3 .ensures)
 
 pub put-said-spec : {M : Type 1} → statement M

@@ -9,16 +9,16 @@ use Rattle.fit.proofs.readers_ok.Statement.{statement}
 use Rattle.fit.proofs.readers_ok.Tie as tie
 
 abbrev Inv-loop : tie.InvT-loop
-Inv-loop readers i₀ i = (i ≤ 16) × (every (readerOk full) readers ≡ every (readerOk full) (drop i readers))
+Inv-loop readers i₀ i = (i ≤ full .readers) × (every (readerOk full) readers ≡ every (readerOk full) (drop i readers))
 
 abbrev μ-loop : tie.MeasureT-loop
-μ-loop readers i₀ i = 16 - i
+μ-loop readers i₀ i = full .readers - i
 
 returns : tie.Need-returns Inv-loop μ-loop
 returns c =
     let p = c .before .before .before .before in let a = p .before .args in
     let l : List Reader = a .readers in
-    let n : length l ≡ 16 = search (needs, length-mapped) in
+    let n : length l ≡ full .readers = search (needs, length-mapped) in
     let i = p .loop .i in
     let e : readerOk full (getD l i freshReader) ≡ false = ap (readerOk full) (sym (c .before .before .reader-of .ensures)) ∙ sym
     (c .before .reader-ok .ensures) ∙ not-true _ (c .if1 .taken) in
@@ -28,7 +28,7 @@ loop-again : tie.Need-loop-again Inv-loop μ-loop
 loop-again c =
     let p = c .before .before .before .before in let a = p .before .args in
     let l : List Reader = a .readers in
-    let n : length l ≡ 16 = search (needs, length-mapped) in
+    let n : length l ≡ full .readers = search (needs, length-mapped) in
     let i = p .loop .i in
     let e : readerOk full (getD l i freshReader) ≡ true = ap (readerOk full) (sym (c .before .before .reader-of .ensures)) ∙ sym
     (c .before .reader-ok .ensures) ∙ not-false _ (c .if1 .left) in
@@ -37,7 +37,7 @@ loop-again c =
 returns-2 : tie.Need-returns-2 Inv-loop μ-loop
 returns-2 c =
     let l : List Reader = c .before .before .args .readers in
-    let n : length l ≡ 16 = search (needs, length-mapped) in
+    let n : length l ≡ full .readers = search (needs, length-mapped) in
     sym (c .before .loop .inv .1 ∙ every-end (readerOk full) l (c .before .loop .i) (omega arith))
 
 pub readers-ok-spec : {M : Type 1} → statement M

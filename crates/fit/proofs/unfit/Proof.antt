@@ -1,6 +1,7 @@
 -- The lengths first, then each test in the definition's order: the number is that of the first that fails.
 use Rattle.units.proofs.Common.{sym, _∙_, _≡_, refl, ap, true, not, length, eq-eqb, ne-eqb, not-false, not-true, needs, yes-and, no-and}
 use Rattle.units.proofs.Common.{every}
+use Rattle.meaning.specs.Bench.{nodeCount}
 use Rattle.meaning.proofs.Terms.{full, refusal, _when_}
 use Rattle.state.proofs.Terms.{listsOk, nodeOk, readerOk, arrays, consistent, lengths, lent, unfit, machine}
 use Rattle.state.proofs.Lists.{length-mapped}
@@ -19,9 +20,9 @@ sized : (c : tie.Start) → arrays full (c .args .s) ≡ true
 unfolding arrays
 sized c =
     let x : length (c .args .s .name .bytes) ≡ 64 = search needs in
-    let r : length (c .args .s .readers) ≡ 16 = search (needs, length-mapped) in
-    let n : length (c .args .s .nodes) ≡ 17 = search (needs, length-mapped) in
-    let h : length (c .args .s .held) ≡ 17 = search (needs, length-mapped) in
+    let r : length (c .args .s .readers) ≡ full .readers = search (needs, length-mapped) in
+    let n : length (c .args .s .nodes) ≡ nodeCount full = search (needs, length-mapped) in
+    let h : length (c .args .s .held) ≡ nodeCount full = search (needs, length-mapped) in
     yes-and (eq-eqb _ _ x) ∙ yes-and (eq-eqb _ _ r) ∙ yes-and (eq-eqb _ _ n) ∙ eq-eqb _ _ h
 
 -- a test that was passed

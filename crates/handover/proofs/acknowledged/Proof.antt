@@ -2,13 +2,13 @@
 -- (laws of `Handing`).
 -- Assumes nothing.
 use Rattle.units.proofs.Common.{arith, needs}
-use Rattle.promise.specs.Obeyed.{spoken}
+use Rattle.promise.specs.Obeyed.{saidOf}
 use Rattle.handover.proofs.Handing.{slot-takeable, acks-14, acks-15, acks-0}
 use Rattle.handover.proofs.acknowledged.Statement.{statement}
 use Rattle.handover.proofs.acknowledged.Tie as tie
 
 pub acknowledged-spec : {M : Type 1} → statement M
-unfolding spoken
+unfolding saidOf
 acknowledged-spec = tie.close (tie.spec
     (λ c n is at s memory a fit. acks-14 s _ memory fit n is at a _ (c .if1 .taken))
     (λ c n is at s memory a fit. acks-15 s _ memory fit n is at a _ (omega arith) (c .if2 .taken))

@@ -4,10 +4,9 @@ use Rattle.meaning.proofs.Terms.{full, bears}
 use Rattle.state.proofs.Terms.{Machine, machine}
 use Rattle.state.specs.declared.node.Node.{Node}
 use Rattle.state.proofs.Read.{blank}
-use Rattle.moves.specs.Moved.{putIn}
+use lib.Seq.{sets}
 use Rattle.promise.proofs.Parts.{parts}
-use Rattle.promise.proofs.Oldest.{oldest, collected-7, collected-14, collected-16, collected-0, shown-headed, shown-bare, bare-written}
-use Rattle.promise.proofs.Oldest.{headed-written}
+use Rattle.promise.proofs.Oldest.{oldest, collected-7, collected-14, collected-16, collected-0, shown-headed, shown-bare}
 use Rattle.handover.proofs.Served.{slot-out, Found, found, Stands, stands}
 use Rattle.handover.proofs.collect.Statement.{statement}
 use Rattle.handover.proofs.collect.Tie as tie
@@ -43,7 +42,7 @@ lies c =
     (c .place-of .ensures)
 
 -- the store's length
-stored : (c : tie.Start) → length (c .args .store .now) ≡ 4096
+stored : (c : tie.Start) → length (c .args .store .now) ≡ full .store
 stored c = parts full (given c) (c .pre) .store
 
 returns-3 : tie.Need-returns-3
@@ -80,13 +79,13 @@ returns-4 c =
     let h = lies (u .before .before) in
     let g : bears (a .form) (a .node) ≡ true = sym (u .bears .ensures) ∙ r .before .before .if3 .taken in
     let p = c .before .before .copy-answer in
-    let q : p .last .1 .1 .0 ≡ putIn (set (a .out .now) 0 (word 0xFF (a .node))) 1 w =
-    p .ensures ∙ ap (putIn (set (a .out .now) 0 (r .word .result)) 1) (h .words)
-    ∙ ap (λ (k : ℕ). putIn (set (a .out .now) 0 k) 1 w) (r .word .ensures) in
+    let q : p .last .1 .1 .0 ≡ sets (set (a .out .now) 0 (word 0xFF (a .node))) 1 w =
+    p .ensures ∙ ap (sets (set (a .out .now) 0 (r .word .result)) 1) (h .words)
+    ∙ ap (λ (k : ℕ). sets (set (a .out .now) 0 k) 1 w) (r .word .ensures) in
     collected-0 full (given s) (a .form) (a .node) (length (a .out .now)) (s .pre) (e .before .node-slot .result) (f .is) (f .slot) (node e)
     (f .at) (some v)
     (word 0xFF (a .node) ∷ w) (shown-headed (a .form) (a .node) w g) (omega (arith, h .says)) (a .out .now) (p .last .1 .1 .0)
-    (q ∙ headed-written (a .out .now) w (word 0xFF (a .node)) (omega arith)) _ (omega (arith, h .says))
+    q _ (omega (arith, h .says))
 
 returns-5 : tie.Need-returns-5
 returns-5 c =
@@ -114,7 +113,7 @@ returns-6 c =
     collected-0 full (given s) (a .form) (a .node) (length (a .out .now)) (s .pre) (e .before .node-slot .result) (f .is) (f .slot) (node e)
     (f .at) (some (r .before .before))
     w (shown-bare (a .form) (a .node) w g) (omega (arith, h .says)) (a .out .now) (p .last .1 .1 .0)
-    (p .ensures ∙ ap (putIn (a .out .now) 0) (h .words) ∙ bare-written (a .out .now) w) _ (h .says)
+    (p .ensures ∙ ap (sets (a .out .now) 0) (h .words)) _ (h .says)
 
 pub collect-spec : {M : Type 1} → statement M
 collect-spec = tie.close (tie.spec (λ c κs. search needs)

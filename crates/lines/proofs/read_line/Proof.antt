@@ -6,8 +6,8 @@ use Rattle.dialog.proofs.SpokenLaws.{too-long, empty, comment}
 use Rattle.fields.specs.FieldsAt.{fieldsFrom, verbOf}
 use Rattle.fields.specs.declared.field.Verb.{Verb}
 use Rattle.lines.specs.Heard.{heardOf, wordsIn, idIn, bytesIn}
-use Rattle.lines.proofs.Whole.{sayBy, line-said, quiet-read, command-read, check-read, arrive-read, leave-read}
-use Rattle.lines.proofs.Whole.{collect-read, acknowledge-read, store-read}
+use Rattle.lines.proofs.Whole.{sayBy, line-said, quiet-read, command-read, check-read, arrive-read, leave-read, collect-read}
+use Rattle.lines.proofs.Whole.{acknowledge-read, store-read}
 use Rattle.lines.proofs.read_line.Statement.{statement}
 use Rattle.lines.proofs.read_line.Tie as tie
 

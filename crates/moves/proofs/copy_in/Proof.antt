@@ -2,41 +2,41 @@
 use borrow.Author.Needs.{needs}
 use native.Mathlib.Omega.{arith}
 use native.Mathlib.Numerals.{add-one}
-use Prim.Native.Nat.{ℕ, _+_, _-_, _≤_, _<_}
-use mathlib.Core.Path.{_≡_, refl, ap, _∙_}
-use mathlib.Core.List.{append-assoc}
-use lib.ListN.{length, length-set}
-use lib.Seq.{paste, paste-zero, paste-suc, take-length}
-use Rattle.moves.specs.Moved.{putIn}
+use Prim.Native.Nat.{ℕ, _-_, _≤_}
+use mathlib.Core.Path.{_≡_, refl, _∙_}
+use mathlib.Core.List.{List}
+use lib.ListN.{length, take, getD, length-set}
+use lib.Seq.{sets, take-suc, take-length, length-take-le}
+use Rattle.moves.proofs.Moves.{put-next}
 use Rattle.moves.proofs.copy_in.Statement.{statement}
 use Rattle.moves.proofs.copy_in.Tie as tie
 
 abbrev Inv-loop : tie.InvT-loop
-Inv-loop src dst₀ to j₀ dst j = (j ≤ length src) × (length dst ≡ length dst₀) × (dst ≡ paste dst₀ to src j)
+Inv-loop src dst₀ to j₀ dst j = (j ≤ length src) × (length dst ≡ length dst₀) × (dst ≡ sets dst₀ to (take j src))
 
 abbrev μ-loop : tie.MeasureT-loop
 μ-loop src dst₀ to j₀ dst j = length src - j
 
 loop-holds : tie.Need-loop-holds Inv-loop μ-loop
-loop-holds c = (omega arith, refl, paste-zero (c .args .dst .now) (c .args .to) (c .args .src .now))
+loop-holds c = (omega arith, refl, refl)
 
 loop-again : tie.Need-loop-again Inv-loop μ-loop
 loop-again c =
     let a = c .before .before .before .args in
-    let j = c .before .before .loop .j in
-    let h : a .to + j < length (a .dst .now) = omega arith in (
+    let l = c .before .before .loop in
+    let s : List ℕ = a .src .now in
+    let e : length (take (l .j) s) ≡ l .j = length-take-le (l .j) s (omega arith) in (
       omega arith,
-      simp length-set (c .before .before .loop .inv .1),
-      rw (c .before .before .loop .inv .2, add-one, paste-suc (a .dst .now) (a .to) (a .src .now) j 0 h (omega arith)),
+      simp length-set (l .inv .1),
+      rw (l .inv .2, add-one, take-suc s (l .j) 0 (omega arith))
+          (rw e at (put-next (a .dst .now) (a .to) (take (l .j) s) (getD s (l .j) 0))),
     )
 
 returns : tie.Need-returns Inv-loop μ-loop
-unfolding putIn
 returns c =
     let a = c .before .before .args in
     let e : c .before .loop .j ≡ length (a .src .now) = omega arith in
-    c .before .loop .inv .2 ∙ ap (λ (n : ℕ). paste (a .dst .now) (a .to) (a .src .now) n) e
-    ∙ simp (take-length (a .src .now), append-assoc)
+    c .before .loop .inv .2 ∙ rw (e, take-length (a .src .now))
 
 pub copy-in-spec : {M : Type 1} → statement M
 copy-in-spec = tie.close (tie.spec Inv-loop μ-loop loop-holds (λ c. search needs) (λ c. search needs) (λ c. search needs)

@@ -4,14 +4,14 @@ use native.Mathlib.Omega.{arith}
 use Prim.Native.Nat.{_+_, _-_, _≤_}
 use mathlib.Core.Path.{_≡_, refl}
 use lib.ListN.{length, take, drop, length-set}
-use Rattle.moves.specs.Moved.{putIn}
-use Rattle.moves.proofs.Moves.{put-none, moved-up}
+use lib.Seq.{sets}
+use Rattle.moves.proofs.Moves.{moved-up}
 use Rattle.moves.proofs.move_up.Statement.{statement}
 use Rattle.moves.proofs.move_up.Tie as tie
 
 abbrev Inv-loop : tie.InvT-loop
 Inv-loop words₀ from end by j₀ words j =
-    (from ≤ j) × (j ≤ end) × (length words ≡ length words₀) × (words ≡ putIn words₀ (j + by) (take (end - j) (drop j words₀)))
+    (from ≤ j) × (j ≤ end) × (length words ≡ length words₀) × (words ≡ sets words₀ (j + by) (take (end - j) (drop j words₀)))
 
 abbrev μ-loop : tie.MeasureT-loop
 μ-loop words₀ from end by j₀ words j = j
@@ -20,7 +20,7 @@ loop-holds : tie.Need-loop-holds Inv-loop μ-loop
 loop-holds c =
     let a = c .args in
     let e : a .end - a .end ≡ 0 = omega arith in
-    (omega arith, omega arith, refl, rw e (put-none (a .words .now) (a .end + a .by)))
+    (omega arith, omega arith, refl, rw e refl)
 
 loop-again : tie.Need-loop-again Inv-loop μ-loop
 loop-again c =

@@ -5,7 +5,7 @@ use Prim.Native.Nat.{ℕ, _+_, _-_}
 use mathlib.Core.Path.{_≡_, ap, _∙_}
 use mathlib.Core.List.{List}
 use lib.ListN.{replicate}
-use Rattle.moves.specs.Moved.{putIn}
+use lib.Seq.{sets}
 use Rattle.moves.proofs.Moves.{remove-is}
 use Rattle.moves.proofs.remove.Statement.{statement}
 use Rattle.moves.proofs.remove.Tie as tie
@@ -17,7 +17,7 @@ returns c =
     let k : a .end - (a .end - a .count) ≡ a .count = omega arith in
     let b : a .at + a .count - a .count ≡ a .at = omega arith in
     c .before .before .wipe-part .ensures
-    ∙ ap (λ (v : List ℕ). putIn v (a .end - a .count) (replicate (a .end - (a .end - a .count)) 0)) (m .move-down .ensures)
+    ∙ ap (λ (v : List ℕ). sets v (a .end - a .count) (replicate (a .end - (a .end - a .count)) 0)) (m .move-down .ensures)
     ∙ rw (k, b) (remove-is (a .words .now) (a .at) (a .end) (a .count) (omega arith) (omega arith))
 
 pub remove-spec : {M : Type 1} → statement M

@@ -4,7 +4,7 @@ use Rattle.meaning.proofs.Terms.{full}
 use Rattle.meaning.specs.Call as S
 use Rattle.demands.specs.Sound.{full-sound}
 use Rattle.state.proofs.Terms.{Machine, machine, meaning}
-use Rattle.promise.specs.Obeyed.{spoken}
+use Rattle.promise.specs.Obeyed.{saidOf}
 use Rattle.promise.proofs.Promises.{turning}
 use Rattle.promise.proofs.Steps.{step-refused}
 use Rattle.answers.proofs.Replies.{stepped, called}
@@ -56,7 +56,7 @@ returns-3 c =
     instead (step-reader-is full (a .t) (a .form) (now (a .words)) e k w l (meaning full (whole s)) r) (q .order .ensures)
 
 pub obey-spec : {M : Type 1} → statement M
-unfolding spoken
+unfolding saidOf
 obey-spec = tie.close (tie.spec (λ c κs. search needs) (λ c κs. search needs)
     (λ c. let s = c .before .before .before .before .before .before .before in
     let e = its-refusal full _ _ _ (c .before .before .before .judge-command .ensures) in let k = S.command _ _ _ in

@@ -1,46 +1,13 @@
 -- By the change's kind: the region is kept, filled, or written over with the bytes that the words say.
-use Rattle.units.proofs.Common.{sym, _∙_, ap, subst, length, now, needs}
+use Rattle.units.proofs.Common.{now, needs}
 use Rattle.answers.proofs.Cuts.{unpacked}
 use Rattle.orders.specs.Decided.{altered, Suits}
-use Rattle.orders.specs.declared.Change.{Change}
 use Rattle.orders.proofs.alter.Statement.{statement}
 use Rattle.orders.proofs.alter.Tie as tie
 
-fill-bytes-requires : tie.Need-fill-bytes-requires
-unfolding Suits
-fill-bytes-requires c κs =
-    let s = c .before .before .before .before .before .before in
-    let a = s .args in
-    subst (λ (e : Change). Suits e (now (a .words)) (length (now (a .region)))) (c .before .before .change .given .1) (s .pre)
-
-add-end : tie.Need-add-end
-unfolding Suits
-add-end c =
-    let s = c .before .before .before .before .before in
-    let a = s .args in
-    let h = subst (λ (e : Change). Suits e (now (a .words)) (length (now (a .region)))) (c .before .change2 .given .1) (s .pre) in
-    let k = h .0 in
-    search needs
-
-part-unpack-end : tie.Need-part-unpack-end
-unfolding Suits
-part-unpack-end c =
-    let s = c .before .before .before .before .before in
-    let a = s .args in
-    (subst (λ (e : Change). Suits e (now (a .words)) (length (now (a .region)))) (c .before .change2 .given .1) (s .pre)) .0
-
-returns : tie.Need-returns
-unfolding altered
-returns c =
-    let a = c .before .before .before .before .args in
-    sym (ap (λ (e : Change). altered e (now (a .words)) (now (a .region))) (c .enum-told .given .1))
-
 returns-2 : tie.Need-returns-2
 unfolding altered
-returns-2 c =
-    let a = c .before .before .before .before .before .before .before .before .before .args in
-    let k = c .before .before .before .before .before .change .given .1 in
-    c .before .before .fill-bytes .ensures ∙ sym (ap (λ (e : Change). altered e (now (a .words)) (now (a .region))) k)
+returns-2 c = rw (c .before .before .before .before .before .change .given .1) (c .before .before .fill-bytes .ensures)
 
 returns-3 : tie.Need-returns-3
 unfolding Suits altered
@@ -48,11 +15,14 @@ returns-3 c =
     let s = c .before .before .before .before .before .before .before .before .before in
     let a = s .args in
     let k = c .before .before .before .before .before .change2 .given .1 in
-    let h = subst (λ (e : Change). Suits e (now (a .words)) (length (now (a .region)))) k (s .pre) in
-    unpacked (now (a .words)) (now (a .region)) _ _ _ (h .0) (h .1) (c .before .before .unpack .ensures)
-    ∙ sym (ap (λ (e : Change). altered e (now (a .words)) (now (a .region))) k)
+    let h = rw k at (s .pre) in
+    rw k (unpacked (now (a .words)) (now (a .region)) _ _ _ (h .0) (h .1) (c .before .before .unpack .ensures))
 
 pub alter-spec : {M : Type 1} → statement M
-alter-spec = tie.close (tie.spec (λ c. search needs) (λ c. search needs) fill-bytes-requires (λ c. search needs) add-end
-    (λ c. search needs) (λ c. search needs) part-unpack-end (λ c κs. search needs) returns (λ c. search needs) returns-2
-    (λ c. search needs) returns-3)
+unfolding Suits altered
+alter-spec = tie.close (tie.spec (λ c. search needs) (λ c. search needs)
+    (λ c κs. rw (c .before .before .change .given .1) at (c .before .before .before .before .before .before .pre)) (λ c. search needs)
+    (λ c. let k = (rw (c .before .change2 .given .1) at (c .before .before .before .before .before .pre)) .0 in search needs)
+    (λ c. search needs) (λ c. search needs)
+    (λ c. (rw (c .before .change2 .given .1) at (c .before .before .before .before .before .pre)) .0) (λ c κs. search needs)
+    (λ c. rw (c .enum-told .given .1)) (λ c. search needs) returns-2 (λ c. search needs) returns-3)

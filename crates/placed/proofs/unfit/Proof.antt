@@ -39,10 +39,6 @@ readers : (c : tie.Else5) → every (readerOk full)
     true
 readers c = sym (c .before .readers-ok .ensures) ∙ not-false _ (c .if5 .left)
 
-returns : tie.Need-returns
-unfolding unfit lent lengths
-returns c = sym (stop-if 1 _ refl (ap not (no-and _ (ne-eqb _ _ (c .if1 .taken)))))
-
 returns-2 : tie.Need-returns-2
 unfolding unfit lent lengths
 returns-2 c = sym (stop-if 1 _ refl (ap not (yes-and (eq-eqb _ _ (c .before .before .if1 .left)) ∙ ne-eqb _ _ (c .if2 .taken))))
@@ -87,5 +83,7 @@ returns-7 c =
     sym (long q ∙ none 2 (ap not (yes-and l ∙ yes-and n ∙ yes-and r ∙ yes-and x ∙ sized u)))
 
 pub unfit-spec : {M : Type 1} → statement M
-unfit-spec = tie.close (tie.spec (λ c. search needs) returns (λ c. search needs) returns-2 (λ c κs. search needs) returns-3
-    (λ c κs. search needs) returns-4 (λ c κs. search needs) returns-5 (λ c κs. search needs) returns-6 returns-7)
+unfolding unfit lent lengths
+unfit-spec = tie.close (tie.spec (λ c. search needs) (λ c. sym (stop-if 1 _ refl (ap not (no-and _ (ne-eqb _ _ (c .if1 .taken))))))
+    (λ c. search needs) returns-2 (λ c κs. search needs) returns-3 (λ c κs. search needs) returns-4 (λ c κs. search needs) returns-5
+    (λ c κs. search needs) returns-6 returns-7)

@@ -1,7 +1,7 @@
 -- No reader, or an ID or bytes past their limits: refused; else the reader is stored with its plaque, and the bytes stand in its region.
 use Rattle.units.proofs.Common.{_∙_, ap, true, List, ℕ, _*_, arith, length, getD, paste, now, le-leb, lt-leb, needs, yes-and, no-and}
 use Rattle.meaning.proofs.Terms.{full, Call, arrive}
-use Rattle.promise.specs.Obeyed.{spoken}
+use Rattle.promise.specs.Obeyed.{saidOf}
 use Rattle.promise.proofs.Parts.{parts}
 use Rattle.promise.proofs.Plaques.{arrived-7, arrived-9, arrived-10, arrived-0}
 use Rattle.promise.proofs.Readers.{withPlaque}
@@ -14,14 +14,14 @@ abbrev call : tie.Start → Call
 call s = arrive (s .args .node) (now (s .args .id)) (now (s .args .bytes))
 
 returns : tie.Need-returns
-unfolding spoken
+unfolding saidOf
 returns c =
     let s = c .before .before .before .before .before .before .before in
     called (c .refused .ensures) (stepped (call s) (s .pre)
     (arrived-7 full _ _ (s .pre) _ _ (slot-out (s .args .node) _ (c .before .before .reader-slot .ensures) (c .before .if1 .taken))))
 
 returns-2 : tie.Need-returns-2
-unfolding spoken
+unfolding saidOf
 returns-2 c =
     let e = c .before .before .before in
     let s = e .before .before .before .before .before .before in
@@ -29,7 +29,7 @@ returns-2 c =
     called (c .refused2 .ensures) (stepped (call s) (s .pre) (arrived-9 full _ _ (s .pre) _ _ (p .0) (c .before .if2 .taken)))
 
 returns-3 : tie.Need-returns-3
-unfolding spoken
+unfolding saidOf
 returns-3 c =
     let e = c .before .before .before .before in
     let s = e .before .before .before .before .before .before in
@@ -38,7 +38,7 @@ returns-3 c =
     (arrived-10 full _ _ (s .pre) _ _ (p .0) (c .before .before .if2 .left) (no-and _ (lt-leb _ _ (c .before .if3 .taken)))))
 
 returns-4 : tie.Need-returns-4
-unfolding spoken
+unfolding saidOf
 returns-4 c =
     let e = c .before .before .before .before .before .before in
     let s = e .before .before .before .before .before .before in
@@ -54,7 +54,7 @@ copy-bytes-requires c κs =
     omega (arith, parts full _ (e .before .before .before .before .before .before .pre) .memory, e .if1 .left, f .if4 .left)
 
 returns-5 : tie.Need-returns-5
-unfolding spoken
+unfolding saidOf
 returns-5 c =
     let v = c .before .before .before .before .before in
     let f = v .before .before .before in
@@ -68,7 +68,7 @@ returns-5 c =
     (stepped (call s) (s .pre) (arrived-0 full _ _ (s .pre) _ _ (p .0) (f .before .before .before .if2 .left)
     (yes-and (le-leb 1 _ (f .before .before .if3 .left)) ∙ le-leb _ _ (f .if4 .left)) _ (reader-there _ _ _ (s .pre) (p .0) (p .1)) _
     (c .before .before .copy-bytes .ensures
-    ∙ ap (λ (k : ℕ). paste (now (s .args .plaques)) (k * 1024) (now (s .args .bytes)) (length (now (s .args .bytes)))) (p .1))))
+    ∙ ap (λ (k : ℕ). paste (now (s .args .plaques)) (k * full .region) (now (s .args .bytes)) (length (now (s .args .bytes)))) (p .1))))
 
 pub arrive-spec : {M : Type 1} → statement M
 arrive-spec = tie.close (tie.spec (λ c κs. search needs) (λ c κs. search needs) returns (λ c. search needs) (λ c κs. search needs)

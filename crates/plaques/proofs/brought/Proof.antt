@@ -14,12 +14,6 @@ within-limits s = limits (s .args .node) (s .args .id .now) (s .args .bytes .now
 sub-i : tie.Need-sub-i
 sub-i c = let s = c .before .before .before in omega (arith, reader-range full (s .args .node) (within-limits s .reader))
 
-eight-requires : tie.Need-eight-requires
-eight-requires c κs = within-limits (c .before .before .before) .eight
-
-cast-t13 : tie.Need-cast-t13
-cast-t13 c = let l = within-limits (c .before .before .before .before) in omega (arith, l .few)
-
 copy-bytes-requires : tie.Need-copy-bytes-requires
 copy-bytes-requires c κs =
     let s = c .before .before .before .before .before .before .before in
@@ -40,5 +34,6 @@ returns c store =
     _ (c .before .before .copy-bytes .ensures)
 
 pub brought-spec : {M : Type 1} → statement M
-brought-spec = tie.close (tie.spec sub-i (λ c. search needs) eight-requires cast-t13 (λ c κs. search needs) (λ c. search needs)
+brought-spec = tie.close (tie.spec sub-i (λ c. search needs) (λ c κs. within-limits (c .before .before .before) .eight)
+    (λ c. let l = within-limits (c .before .before .before .before) in omega (arith, l .few)) (λ c κs. search needs) (λ c. search needs)
     (λ c. search needs) copy-bytes-requires (λ c. search needs) returns)

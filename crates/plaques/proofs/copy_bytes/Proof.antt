@@ -10,9 +10,6 @@ Inv-loop src dst₀ to j₀ dst j = (j ≤ length src) × (length dst ≡ length
 abbrev μ-loop : tie.MeasureT-loop
 μ-loop src dst₀ to j₀ dst j = length src - j
 
-loop-holds : tie.Need-loop-holds Inv-loop μ-loop
-loop-holds c = (omega arith, refl, paste-zero (c .args .dst .now) (c .args .to) (c .args .src .now))
-
 loop-again : tie.Need-loop-again Inv-loop μ-loop
 loop-again c =
     let a = c .before .before .before .args in
@@ -30,5 +27,6 @@ returns c =
     c .before .loop .inv .2 ∙ ap (λ (n : ℕ). paste (a .dst .now) (a .to) (a .src .now) n) e
 
 pub copy-bytes-spec : {M : Type 1} → statement M
-copy-bytes-spec = tie.close (tie.spec Inv-loop μ-loop loop-holds (λ c. search needs) (λ c. search needs) (λ c. search needs)
-    (λ c. search needs) (λ c. search needs) loop-again (λ c. search needs) returns)
+copy-bytes-spec = tie.close (tie.spec Inv-loop μ-loop
+    (λ c. (omega arith, refl, paste-zero (c .args .dst .now) (c .args .to) (c .args .src .now))) (λ c. search needs) (λ c. search needs)
+    (λ c. search needs) (λ c. search needs) (λ c. search needs) loop-again (λ c. search needs) returns)

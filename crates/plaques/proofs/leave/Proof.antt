@@ -1,7 +1,7 @@
 -- No reader, or no plaque there: refused; else the reader is stored without its plaque.
 use Rattle.units.proofs.Common.{not-false, not-true, needs}
 use Rattle.meaning.proofs.Terms.{full, leave}
-use Rattle.promise.specs.Obeyed.{spoken}
+use Rattle.promise.specs.Obeyed.{saidOf}
 use Rattle.promise.proofs.Plaques.{left-7, left-14, left-0}
 use Rattle.answers.proofs.Indices.{slot-out, slot-in, reader-there}
 use Rattle.answers.proofs.Replies.{stepped, stored, called}
@@ -9,14 +9,14 @@ use Rattle.plaques.proofs.leave.Statement.{statement}
 use Rattle.plaques.proofs.leave.Tie as tie
 
 returns : tie.Need-returns
-unfolding spoken
+unfolding saidOf
 returns c =
     let s = c .before .before .before .before .before in
     called (c .refused .ensures) (stepped (leave (s .args .node)) (s .pre)
     (left-7 full _ _ (s .pre) (slot-out (s .args .node) _ (c .before .before .reader-slot .ensures) (c .before .if1 .taken))))
 
 returns-2 : tie.Need-returns-2
-unfolding spoken
+unfolding saidOf
 returns-2 c =
     let q = c .before .before .before .before .before in
     let s = q .before .before .before .before in
@@ -25,7 +25,7 @@ returns-2 c =
     (left-14 full _ _ (s .pre) (p .0) _ (reader-there _ _ _ (s .pre) (p .0) (p .1)) (not-true _ (c .before .if2 .taken))))
 
 returns-3 : tie.Need-returns-3
-unfolding spoken
+unfolding saidOf
 returns-3 c =
     let q = c .before .before .before .before .before in
     let s = q .before .before .before .before in

@@ -1,7 +1,7 @@
 -- What `converse` says, as one number.
 -- Assumes nothing.
 use Rattle.units.proofs.Common.{sym, _∙_, _≡_, refl, ap, cond, List, ℕ, _*_, leb, length, now, needs}
-use Rattle.dialog.specs.Dialog.{linesOf, conversation}
+use Rattle.dialog.specs.Dialog.{linesOf, conversation, longestAnswer}
 use Rattle.conversation.specs.Conversation.{Converses}
 use Rattle.conversation.specs.declared.Text.{Text}
 use Rattle.rashdumof.proofs.Numbers.{by-test}
@@ -13,10 +13,10 @@ number (Text.Written n) = n
 number Text.TooShort = 18446744073709551615
 
 number-is : (input old new : List ℕ) {r : Text} → Converses input old new r
-    → number r ≡ cond (leb (length (linesOf input) * 691) (length old)) (length (conversation input)) 18446744073709551615
+    → number r ≡ cond (leb (length (linesOf input) * longestAnswer) (length old)) (length (conversation input)) 18446744073709551615
 unfolding number
 number-is input old new w = ap number (w .says) ∙ by-test number Text.Written Text.TooShort (λ n. refl)
-    (leb (length (linesOf input) * 691) (length old)) (length (conversation input))
+    (leb (length (linesOf input) * longestAnswer) (length old)) (length (conversation input))
 
 enum-told : tie.Need-enum-told
 enum-told c = search needs

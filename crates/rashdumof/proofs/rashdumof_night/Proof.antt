@@ -1,7 +1,7 @@
 -- What `list` says, as one number.
 -- Assumes nothing.
 use Rattle.units.proofs.Common.{sym, _∙_, _≡_, refl, ap, cond, List, ℕ, leb, length, now, needs}
-use Rattle.listing.specs.Listing.{listing}
+use Rattle.listing.specs.Listing.{listing, longestListing}
 use Rattle.nightrun.specs.Walk.{Lists}
 use Rattle.nightrun.specs.declared.Listed.{Listed}
 use Rattle.rashdumof.proofs.Numbers.{by-test}
@@ -13,9 +13,9 @@ number (Listed.Written n) = n
 number Listed.TooShort = 18446744073709551615
 
 number-is : (file old new : List ℕ) {r : Listed} → Lists file old new r
-    → number r ≡ cond (leb 2600000 (length old)) (length (listing file)) 18446744073709551615
+    → number r ≡ cond (leb longestListing (length old)) (length (listing file)) 18446744073709551615
 unfolding number
-number-is file old new l = ap number (l .says) ∙ by-test number Listed.Written Listed.TooShort (λ n. refl) (leb 2600000 (length old))
+number-is file old new l = ap number (l .says) ∙ by-test number Listed.Written Listed.TooShort (λ n. refl) (leb longestListing (length old))
     (length (listing file))
 
 enum-told : tie.Need-enum-told

@@ -4,10 +4,6 @@ use Rattle.meaning.proofs.Terms.{readResponse, responseResult}
 use Rattle.response.proofs.judge_response.Statement.{statement}
 use Rattle.response.proofs.judge_response.Tie as tie
 
-returns : tie.Need-returns
-unfolding readResponse responseResult
-returns c = rw (← (c .before .response-refusal .ensures)) (sym (no-cond _ (ne-eqb _ _ (c .if1 .taken))))
-
 returns-2 : tie.Need-returns-2
 unfolding readResponse responseResult
 returns-2 c =
@@ -21,5 +17,7 @@ returns-2 c =
     ) (sym (yes-cond _ (eq-eqb _ _ (c .before .before .before .if1 .left))))
 
 pub judge-response-spec : {M : Type 1} → statement M
-judge-response-spec = tie.close (tie.spec (λ c κs. search needs) returns (λ c κs. search needs) (λ c κs. search needs)
-    (λ c κs. search needs) returns-2)
+unfolding readResponse responseResult
+judge-response-spec = tie.close (tie.spec (λ c κs. search needs)
+    (λ c. rw (← (c .before .response-refusal .ensures)) (sym (no-cond _ (ne-eqb _ _ (c .if1 .taken))))) (λ c κs. search needs)
+    (λ c κs. search needs) (λ c κs. search needs) returns-2)

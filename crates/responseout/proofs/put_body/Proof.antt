@@ -1,6 +1,6 @@
 -- Six words and then the data, each written behind the last.
-use Rattle.units.proofs.Common.{_∙_, refl, List, [], _∷_, ℕ, arith, length-set, sets-eq, now, needs, packed, length-packed}
-use Rattle.units.proofs.Tails.{tail-onto}
+use Rattle.units.proofs.Common.{_∙_, List, [], _∷_, ℕ, arith, length-set, sets, now, needs, packed}
+use Rattle.units.proofs.Tails.{tail-sets}
 use Rattle.meaning.proofs.Terms.{responseBody}
 use Rattle.responseout.proofs.put_body.Statement.{statement}
 use Rattle.responseout.proofs.put_body.Tie as tie
@@ -16,9 +16,7 @@ returns c =
     let a = s .args in
     let w : List ℕ = r .before .overall .result .0 ∷ q .before .before .word .result ∷ q .before .word2 .result ∷ q .word3 .result ∷
     p .before .before .word4 .result ∷ p .word5 .result ∷ [] in
-    let n = length-packed (now (a .bytes)) in
-    tail-onto 6 (now (a .out)) _ (packed (now (a .bytes))) w _ refl (sets-eq w (now (a .out)) 0 (omega arith))
-    (simp length-set (omega arith)) (c .before .before .pack .ensures)
+    tail-sets 6 (sets (now (a .out)) 0 w) (packed (now (a .bytes))) _ (c .before .before .pack .ensures)
     ∙ rw (
       p .word5 .ensures,
       p .before .before .word4 .ensures,
@@ -27,7 +25,6 @@ returns c =
       q .before .before .word .ensures,
       r .mark .ensures,
       r .before .overall .ensures,
-      length-packed,
     )
 
 pub put-body-spec : {M : Type 1} → statement M

@@ -1,7 +1,6 @@
 -- Word 00 where the node bears one, and the body behind it.
-use Rattle.units.proofs.Common.{_∙_, refl, [], _∷_, _≤_, _+_, arith, length, length-set, set-split, now, needs}
-use Rattle.units.proofs.Tails.{tail-written, tail-length}
-use Rattle.responseout.proofs.Written.{body-length, headed-rest}
+use Rattle.units.proofs.Common.{_∙_, _≤_, _+_, arith, length, set, length-set, now, needs}
+use Rattle.units.proofs.Tails.{tail-sets, tail-length}
 use Rattle.meaning.proofs.Chain.{flag}
 use Rattle.meaning.proofs.Terms.{overall, responseWords, shown, responseBody, shownCount}
 use Rattle.responseout.proofs.put_words.Statement.{statement}
@@ -41,17 +40,15 @@ unfolding responseWords shown
 returns c =
     let p = c .before .before .before .before in let s = p .before .before .before .before .before in
     let a = s .args in
-    let e = headed (p .before) in
     rw (flag (p .before .before .bears .ensures) (p .before .if1 .taken))
-    (tail-written 1 (overall (length (now (a .bytes)))) (now (a .out)) _ (responseBody (a .r) (now (a .bytes))) (p .word .result ∷ []) _
-    refl (set-split (now (a .out)) 0 _ (omega arith)) (c .before .before .put-body .ensures)
-    ∙ rw (p .word .ensures) (headed-rest _ (a .r) (now (a .bytes)) (now (a .out))))
+    (tail-sets 1 (set (now (a .out)) 0 (p .word .result)) (responseBody (a .r) (now (a .bytes))) _ (c .before .before .put-body .ensures)
+    ∙ rw (p .word .ensures))
 
 returns-2 : tie.Need-returns-2
 unfolding responseWords shown
 returns-2 c =
     let p = c .before .before .before .before in
-    rw (flag (p .before .bears .ensures) (p .if1 .left), body-length) (c .before .before .put-body2 .ensures)
+    rw (flag (p .before .bears .ensures) (p .if1 .left)) (c .before .before .put-body2 .ensures)
 
 pub put-words-spec : {M : Type 1} → statement M
 put-words-spec = tie.close (tie.spec (λ c κs. search needs) (λ c κs. search needs) slice-write-out sub-put-body part-put-body-start

@@ -1,28 +1,10 @@
--- `runfile::read_count` meets its contract, by the walk of every such function.
+-- The record is read of the bytes that are left at the position.
 -- Assumes nothing.
-use contract.Running.{givenOf, tables, tablesOf}
-use denote.Triple.Spec.{tripleOf}
-use denote.Triple.Table.{entered, cited}
+use Rattle.units.proofs.Common.{_∙_, ap, needs}
 use Rattle.runfile.specs.Records.{countOf}
-use Rattle.runfile.proofs.Shapes.{OfFile}
-use Rattle.runfile.proofs.Plain.{Made, plain-meets}
-use Rattle.runfile.proofs.CountRecord as E
-use Rattle.runfile.proofs.CountRecord.Laws as E′
-use Rattle.runfile.proofs.new.Symbol as new
-use Rattle.runfile.proofs.new.Met as known-new
-use Rattle.runfile.proofs.RunFile.count.Symbol as callee
-use Rattle.runfile.proofs.RunFile.count.Met as known
-use Rattle.runfile.proofs.read_count as here
-use Rattle.runfile.proofs.read_count.Key.{name as #here}
-use Rattle.runfile.proofs.read_count.Statement as stated
-use Rattle.runfile.proofs.read_count.Code as code
+use Rattle.runfile.proofs.read_count.Statement.{statement}
+use Rattle.runfile.proofs.read_count.Tie as tie
 
-pub read-count-spec : {M : Type 1} → stated.statement M
-unfolding code.routine tablesOf
-read-count-spec 𝓤 H 𝓜 𝓖 𝓡 =
-    entered 𝓤 H (tripleOf 𝓤 H (𝓖 .A) here.signature (here.spec 𝓤 H (𝓖 .A) (𝓜 .mem) (𝓡 .run)))
-    (tables 𝓤 H 𝓜 𝓡 code.env .C) (tables 𝓤 H 𝓜 𝓡 code.env .Λ) #here code.function (code.unfolded 𝓤 H 𝓜 𝓡)
-    (plain-meets E.the-type E′.the-laws tt countOf callee.name 𝓤 H (𝓖 .A) (givenOf 𝓤 H 𝓜 𝓖) (tablesOf 𝓤 H 𝓜 (tables 𝓤 H 𝓜 𝓡 code.env))
-    (cited 𝓤 H (Made 𝓤 H (𝓖 .A)) 𝓜 𝓡 code.env new.name new.routine code.calls-runfile·new (known-new.met 𝓤 H 𝓜 𝓖 𝓡))
-    (cited 𝓤 H (OfFile E.the-type countOf 𝓤 H (𝓖 .A)) 𝓜 𝓡 code.env callee.name callee.routine code.calls-runfile·RunFile·count
-    (known.met 𝓤 H 𝓜 𝓖 𝓡)))
+pub read-count-spec : {M : Type 1} → statement M
+read-count-spec = tie.close (tie.spec (λ c κs. search needs) (λ c κs. search needs)
+    (λ c. c .count-of .ensures ∙ ap countOf (c .before .rest-of .ensures)))

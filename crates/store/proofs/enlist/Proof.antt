@@ -1,5 +1,6 @@
 -- Room is judged over the swept words, as `room` reads off the calls before; what joins is `inserted` by the promise of `join`.
 use Rattle.units.proofs.Common.{sym, _∙_, _≡_, refl, true, false≢true, true≢false, arith, length, now, not-false, not-true, needs}
+use Rattle.meaning.specs.Bench.{nodeCount}
 use Rattle.meaning.proofs.Terms.{full}
 use Rattle.state.proofs.Terms.{counts}
 use Rattle.state.proofs.Lists.{length-mapped}
@@ -9,11 +10,11 @@ use Rattle.store.proofs.Enlisting.{swept-long, swept-bounded, place-ins
 use Rattle.store.proofs.enlist.Statement.{statement}
 use Rattle.store.proofs.enlist.Tie as tie
 
-held17 : (c : tie.Start) → length (c .args .held) ≡ 17
-held17 c = search (needs, length-mapped)
+held-each : (c : tie.Start) → length (c .args .held) ≡ nodeCount full
+held-each c = search (needs, length-mapped)
 
-swept17 : (c : tie.Start) → length (sweptWords (c .args .broom) (c .args .held)) ≡ 17
-swept17 c = swept-long (c .args .broom) (c .args .held) ∙ held17 c
+swept-each : (c : tie.Start) → length (sweptWords (c .args .broom) (c .args .held)) ≡ nodeCount full
+swept-each c = swept-long (c .args .broom) (c .args .held) ∙ held-each c
 
 has-room-requires : tie.Need-has-room-requires
 has-room-requires c κs =
@@ -30,7 +31,7 @@ returns c =
 sweep-store-requires : tie.Need-sweep-store-requires
 sweep-store-requires c κs =
     let s = c .before .before .before .before .before .before in
-    rw (s .pre .size) (place-inside full (counts (s .args .held)) 17 (s .pre .bounds))
+    rw (s .pre .size) (place-inside full (counts (s .args .held)) (nodeCount full) (s .pre .bounds))
 
 -- room, judged after the sweep
 room : (c : tie.Else1) → let a = c .before .before .before .before .before .args in
@@ -42,10 +43,10 @@ join-requires c κs =
     let f = c .before .before .before .before .before in
     let s = f .before .before .before .before .before in
     let a = s .args in
-    let n = swept17 s in
+    let n = swept-each s in
     let i = s .pre .index in
     let hs = sweptWords (a .broom) (a .held) in
-    let k = room-fits full hs (a .i) (length (now (a .answer))) (room f) 17 (omega arith) (omega arith) in
+    let k = room-fits full hs (a .i) (length (now (a .answer))) (room f) (nodeCount full) (omega arith) (omega arith) in
     let l = c .before .before .before .sweep-store .kept in
     (i, rw (f .before .before .swept-words .ensures) (omega (arith, k, s .pre .size, l)))
 
@@ -68,7 +69,7 @@ returns-2 c =
       yes = λ _. (
         c .joined .ensures,
         rw (v .swept-words .ensures),
-        rw (swept17 s) (rw (v .swept-words .ensures, w .sweep-store .ensures) at (j .join .ensures)),
+        rw (swept-each s) (rw (v .swept-words .ensures, w .sweep-store .ensures) at (j .join .ensures)),
       );
       no = λ e. absurd (true≢false e);
     }

@@ -1,5 +1,7 @@
 -- The held words lie at the front: removing them all leaves zeros, and without a sweep nothing is touched.
 use Rattle.units.proofs.Common.{_∙_, _≡_, length, needs}
+use Rattle.meaning.specs.Bench.{nodeCount}
+use Rattle.meaning.specs.Bench.{full}
 use Rattle.state.proofs.Terms.{counts}
 use Rattle.state.proofs.Lists.{length-mapped}
 use Rattle.lists.specs.Room.{placeOf}
@@ -10,12 +12,8 @@ use Rattle.store.proofs.Enlisting.{sweeping}
 use Rattle.store.proofs.sweep_store.Statement.{statement}
 use Rattle.store.proofs.sweep_store.Tie as tie
 
-held17 : (c : tie.Start) → length (c .args .held) ≡ 17
-held17 c = search (needs, length-mapped)
-
-returns : tie.Need-returns
-unfolding sweptStore
-returns c = rw (c .enum-told .given .1)
+held-each : (c : tie.Start) → length (c .args .held) ≡ nodeCount full
+held-each c = search (needs, length-mapped)
 
 returns-2 : tie.Need-returns-2
 unfolding sweptStore
@@ -25,11 +23,12 @@ returns-2 c =
     let s = m .before .before in
     let a = s .args in
     let w = a .store .now in
-    let k = placeOf (counts (a .held)) 17 in
-    let n = held17 s in
+    let k = placeOf (counts (a .held)) (nodeCount full) in
+    let n = held-each s in
     rw (p .place-of .ensures) at (c .before .before .remove .ensures)
     ∙ sweeping (λ (z : Broom). removed w 0 k k ≡ sweptStore z (a .held) w) (a .broom) (m .match .keys2) (rw n) (rw n)
 
 pub sweep-store-spec : {M : Type 1} → statement M
-sweep-store-spec = tie.close (tie.spec (λ c. search needs) (λ c κs. search needs) (λ c κs. search needs) returns (λ c. search needs)
-    returns-2)
+unfolding sweptStore
+sweep-store-spec = tie.close (tie.spec (λ c. search needs) (λ c κs. search needs) (λ c κs. search needs) (λ c. rw (c .enum-told .given .1))
+    (λ c. search needs) returns-2)

@@ -5,9 +5,9 @@ use Rattle.units.specs.declared.Bytes.{Bytes}
 use Rattle.units.specs.declared.stamp.Stamp.{Stamp}
 use Rattle.meaning.proofs.Terms.{full, arrive, judged}
 use Rattle.settle.proofs.Seating.{memory-long}
-use Rattle.talk.specs.declared.aim.Order.{Order}
-use Rattle.talk.specs.declared.aim.Ask.{Ask}
-use Rattle.talk.specs.Aim.{asked, Orders}
+use Rattle.aiming.specs.declared.Order.{Order}
+use Rattle.aiming.specs.declared.Ask.{Ask}
+use Rattle.talk.specs.Parts.{asked, Orders}
 use Rattle.talk.proofs.Reading.{asks-command, asks-check, asks-arrive, so, check-seats, order-needs, order-seats}
 use Rattle.talk.proofs.at_reader.Statement.{statement}
 use Rattle.talk.proofs.at_reader.Tie as tie

@@ -4,8 +4,8 @@ use Rattle.units.proofs.Common.{sym, _≡_, refl, ap, subst, List, ℕ, _≤_, 
 use Rattle.text.specs.Text.{Put}
 use Rattle.text.proofs.Writing.{put-as}
 use Rattle.dialog.specs.Dialog.{storeLine}
-use Rattle.talk.specs.declared.aim.Aside.{Aside}
-use Rattle.talk.specs.Aim.{asideLine, Lies}
+use Rattle.aiming.specs.declared.Aside.{Aside}
+use Rattle.talk.specs.Parts.{asideLine, Lies}
 use Rattle.talk.proofs.Talking.{part-is}
 use Rattle.talk.proofs.put_aside.Statement.{statement}
 use Rattle.talk.proofs.put_aside.Tie as tie

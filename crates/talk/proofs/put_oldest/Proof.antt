@@ -19,7 +19,7 @@ stands c =
     let w = s .pre .0 in
     lies (w .state) (s .args .store .now) (w .memory) (w .fit) (w .number) (w .is) (w .at) (w .slot) (omega arith) _ (c .place-of .ensures)
 
-stored : (s : tie.Start) → length (s .args .store .now) ≡ 4096
+stored : (s : tie.Start) → length (s .args .store .now) ≡ full .store
 stored s = let w = s .pre .0 in parts full (machine (w .state) (s .args .store .now) (w .memory)) (w .fit) .store
 
 -- how many words are lent

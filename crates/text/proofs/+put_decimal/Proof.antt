@@ -1,5 +1,5 @@
 -- The measure is the number: its tenth is less.
-use Rattle.units.proofs.Common.{sym, _∙_, _≡_, refl, ap, ℕ, _<_, arith, length, length-append, needs}
+use Rattle.units.proofs.Common.{sym, ap, ℕ, _<_, arith, length, length-append, needs}
 use Rattle.text.proofs.Writing.{put-then, put-as, decimal-one, decimal-more}
 use borrow.Fn.Kinds.{In}
 use borrow.Fn.PlainCycle.{Measures, is, falls, and}

@@ -2,7 +2,7 @@
 -- Assumes nothing.
 use Rattle.units.proofs.Common.{ℕ, _≤_, _-_, arith, length, now}
 use Rattle.fields.specs.FieldsAt.{FieldAt}
-use Rattle.fields.proofs.Places.{at-blank, at-end, at-other}
+use Rattle.fields.proofs.Places.{at-other}
 use Rattle.fields.proofs.field.field_end.Statement.{statement}
 use Rattle.fields.proofs.field.field_end.Tie as tie
 
@@ -12,27 +12,18 @@ Inv-loop line at end₀ end = (end ≤ length line) × ((r : ℕ) → FieldAt li
 abbrev μ-loop : tie.MeasureT-loop
 μ-loop line at end₀ end = length line - end
 
-loop-holds : tie.Need-loop-holds Inv-loop μ-loop
-loop-holds c = (omega arith, λ r f. f)
-
-returns : tie.Need-returns Inv-loop μ-loop
-returns c =
-    let a = c .before .before .before .before .args in
-    c .before .before .before .loop .inv .1 (c .before .before .before .loop .end)
-    (at-blank (now (a .line)) (c .before .before .before .loop .end) (omega arith) (c .if1 .taken))
+loop-less : tie.Need-loop-less Inv-loop μ-loop
+loop-less c = let g = c .before .goes-on .ensures .0 (c .if1 .taken) in omega arith
 
 loop-again : tie.Need-loop-again Inv-loop μ-loop
 loop-again c =
-    let a = c .before .before .before .before .args in (
-      omega arith,
-      λ r f. c .before .before .before .loop .inv .1 r (at-other (now (a .line)) (c .before .before .before .loop .end) r
-          (omega arith) (c .if1 .left) f),
-    )
+    let l = c .before .before in
+    let g = c .before .goes-on .ensures .0 (c .if1 .taken) in
+    (omega arith, λ r f. l .loop .inv .1 r (at-other (now (l .before .before .args .line)) (l .loop .end) r (g .0) (g .1) f))
 
-returns-2 : tie.Need-returns-2 Inv-loop μ-loop
-returns-2 c = c .before .loop .inv .1 (c .before .loop .end) (at-end (now (c .before .before .args .line)) (c .before .loop .end)
-    (omega arith))
+returns : tie.Need-returns Inv-loop μ-loop
+returns c = let l = c .before .before .loop in l .inv .1 (l .end) (c .before .goes-on .ensures .1 (c .if1 .left))
 
 pub field-end-spec : {M : Type 1} → statement M
-field-end-spec = tie.close (tie.spec Inv-loop μ-loop loop-holds (λ c. omega arith) returns (λ c. omega arith) (λ c. omega arith)
-    loop-again returns-2)
+field-end-spec = tie.close (tie.spec Inv-loop μ-loop (λ c. (omega arith, λ r f. f)) (λ c κs. omega arith)
+    (λ c. omega arith) loop-less loop-again returns)

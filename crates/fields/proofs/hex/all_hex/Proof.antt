@@ -2,17 +2,13 @@
 -- Assumes nothing.
 use Rattle.units.proofs.Common.{sym, _∙_, _≡_, refl, ap, true, false, Bool, _&&_, _≤_, _-_, _+_, arith, length, drop, getD, now, every}
 use Rattle.dialog.specs.Fields.{isHex}
-use Rattle.dialog.proofs.FieldLaws.{every-next, every-end}
+use Rattle.dialog.proofs.FieldLaws.{and-end, every-next, every-end}
 use Rattle.fields.proofs.hex.all_hex.Statement.{statement}
 use Rattle.fields.proofs.hex.all_hex.Tie as tie
 
 regroup : (a b c : Bool) → (a && (b && c)) ≡ ((a && b) && c)
 regroup true b c = refl
 regroup false b c = refl
-
-end : (a : Bool) → (a && true) ≡ a
-end true = refl
-end false = refl
 
 abbrev Inv-loop : tie.InvT-loop
 Inv-loop field all₀ i₀ all i = (i ≤ length field) × (every isHex field ≡ (all && every isHex (drop i field)))
@@ -34,7 +30,7 @@ returns : tie.Need-returns Inv-loop μ-loop
 returns c =
     let l = c .before in
     let f = now (l .before .before .args .field) in
-    sym (l .loop .inv .1 ∙ ap (λ (b : Bool). l .loop .all && b) (every-end isHex f (l .loop .i) (omega arith)) ∙ end _)
+    sym (l .loop .inv .1 ∙ ap (λ (b : Bool). l .loop .all && b) (every-end isHex f (l .loop .i) (omega arith)) ∙ and-end _)
 
 pub all-hex-spec : {M : Type 1} → statement M
 all-hex-spec = tie.close (tie.spec Inv-loop μ-loop (λ c. (omega arith, refl)) (λ c. omega arith) (λ c κs. tt) (λ c κs. tt)

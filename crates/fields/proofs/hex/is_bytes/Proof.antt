@@ -5,10 +5,6 @@ use Rattle.dialog.proofs.FieldLaws.{nowise}
 use Rattle.dialog.proofs.HexLaws.{of-bytes, bytes-if, bytes-dash}
 use Rattle.fields.proofs.hex.is_bytes.Statement.{statement}
 use Rattle.fields.proofs.hex.is_bytes.Tie as tie
-use Rattle.fields.proofs.hex.is_bytes.Reads as reads
-use Rattle.fields.proofs.hex.is_bytes.Lts as lts
-use Rattle.fields.proofs.field.is_same.Reads as is-same-reads
-use Rattle.fields.proofs.hex.all_hex.Reads as all-hex-reads
 
 returns : tie.Need-returns
 returns c = sym (bytes-dash _ (now (c .before .before .before .before .args .field)) (sym (c .before .is-same .ensures) ∙ c .if1 .taken))

@@ -2,7 +2,7 @@
 -- Assumes nothing.
 use Rattle.units.proofs.Common.{sym, _∙_, now, needs, no-and}
 use Rattle.meaning.specs.Command.{writeCommand, commandOutput}
-use Rattle.meaning.proofs.CommandLaws.{count-words}
+use Rattle.meaning.proofs.CommandLaws.{count-words, writable}
 use Rattle.guide.specs.Again.{commandAgain}
 use Rattle.guide.proofs.Alike.{refused, compared}
 use Rattle.guide.proofs.again.same_command.Statement.{statement}
@@ -18,6 +18,7 @@ returns-2 c =
     let p = c .before .before .before .before in let q = p .before .before .before in
     let a = q .before .before .before .before .args in
     c .same .ensures ∙ rw (q .write-command .ensures .1) (compared _ _ _ _ _ _ (count-words (a .form) (a .m) (now (a .bytes)))
+    (λ z. writable _ (a .form) (a .m) _ _ z .fits)
     (sym (q .write-command .ensures .0) ∙ p .n .given .1))
 
 pub same-command-spec : {M : Type 1} → statement M

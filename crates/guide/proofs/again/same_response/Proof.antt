@@ -3,7 +3,7 @@
 use Rattle.units.proofs.Common.{sym, _∙_, now, needs, no-and}
 use Rattle.meaning.proofs.Terms.{responseOutput}
 use Rattle.meaning.specs.Response.{writeResponse}
-use Rattle.meaning.proofs.ResponseLaws.{count-responded}
+use Rattle.meaning.proofs.ResponseLaws.{count-responded, writable}
 use Rattle.guide.specs.Again.{responseAgain}
 use Rattle.guide.proofs.Alike.{refused, compared}
 use Rattle.guide.proofs.again.same_response.Statement.{statement}
@@ -19,6 +19,7 @@ returns-2 c =
     let p = c .before .before .before .before in let q = p .before .before .before in
     let a = q .before .before .before .before .args in
     c .same .ensures ∙ rw (q .write-response .ensures .1) (compared _ _ _ _ _ _ (count-responded (a .form) (a .r) (now (a .bytes)))
+    (λ z. writable _ (a .form) (a .r) _ _ z .fits)
     (sym (q .write-response .ensures .0) ∙ p .n .given .1))
 
 pub same-response-spec : {M : Type 1} → statement M

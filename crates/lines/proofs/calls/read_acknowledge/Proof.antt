@@ -1,6 +1,6 @@
 -- A node and a number, and no field after them.
 -- Assumes nothing.
-use Rattle.units.proofs.Common.{sym, _∙_, refl, ⊎-elim, [], _∷_, arith, length-drop, not-false, not-true, needs}
+use Rattle.units.proofs.Common.{sym, _∙_, ⊎-elim, arith, not-false, not-true, needs}
 use Rattle.dialog.proofs.FieldLaws.{clash}
 use Rattle.lines.specs.Heard.{heardOf}
 use Rattle.lines.proofs.Found.{too-many, all-there, same-small, no-acknowledge}

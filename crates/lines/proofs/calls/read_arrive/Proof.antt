@@ -1,9 +1,7 @@
 -- The second field is the ID, the third the bytes and the last; nothing is put before both are known to be bytes.
 -- Assumes nothing.
-use Rattle.units.proofs.Common.{sym, _∙_, _≡_, refl, ap, ⊎-elim, true, List, ℕ, arith, not-false, not-true, ltb-false}
-use Rattle.units.proofs.Common.{ltb-true, needs, onto}
-use Rattle.dialog.specs.Spoken.{arriveOk, arriveSaid}
-use Rattle.lines.specs.declared.Heard.{Heard}
+use Rattle.units.proofs.Common.{sym, _∙_, ap, ⊎-elim, arith, not-false, not-true, ltb-false, ltb-true, needs}
+use Rattle.dialog.specs.Spoken.{longestId, longestPlaque}
 use Rattle.dialog.proofs.FieldLaws.{clash}
 use Rattle.lines.specs.Heard.{heardOf, idIn, bytesIn}
 use Rattle.lines.proofs.Found.{too-few, too-many, all-there, field-is, to-end, le-next, past-end, no-arrive}
@@ -45,8 +43,8 @@ returns-4 c =
     let e = field-is (n .rest) (p .before .before .field-end .ensures) in
     let here = to-end (c .before .before .before .if4 .left) (field-is (e .rest) (p .field-end2 .ensures)) in
     no-arrive _ _ _ (λ f. ⊎-elim
-    (λ w. clash (c .before .is-bytes .ensures) (not-true _ (w .taken)) (sym (ap (bytesOk 16) (e .is)) ∙ f .id))
-    (λ w. clash (w .2 .ensures) (not-true _ (w .3 .taken)) (sym (ap (bytesOk 2047) here) ∙ f .bytes))
+    (λ w. clash (c .before .is-bytes .ensures) (not-true _ (w .taken)) (sym (ap (bytesOk longestId) (e .is)) ∙ f .id))
+    (λ w. clash (w .2 .ensures) (not-true _ (w .3 .taken)) (sym (ap (bytesOk longestPlaque) here) ∙ f .bytes))
     (c .if5 .came))
 
 put-bytes-requires : tie.Need-put-bytes-requires
@@ -74,8 +72,8 @@ returns-5 c =
     let a = is-arrive _ (record {
       node = sym (n .ok) ∙ ok;
       three = all-there (g .rest) (past-end (u .if4 .left)) (g .there);
-      id = ap (bytesOk 16) (e .is) ∙ sym (r .before .is-bytes .ensures) ∙ not-false _ (r .if5 .left);
-      bytes = ap (bytesOk 2047) here ∙ sym (q .before .is-bytes2 .ensures) ∙ not-false _ (q .if6 .left);
+      id = ap (bytesOk longestId) (e .is) ∙ sym (r .before .is-bytes .ensures) ∙ not-false _ (r .if5 .left);
+      bytes = ap (bytesOk longestPlaque) here ∙ sym (q .before .is-bytes2 .ensures) ∙ not-false _ (q .if6 .left);
     }) in
     (rw (a, n .value ok, named .0, held .0, e .is, here), (rw (a, e .is) (named .1), rw (a, here) (held .1)))
 

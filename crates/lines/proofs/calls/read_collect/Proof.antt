@@ -1,6 +1,6 @@
 -- A node, and a form that ends with the line.
 -- Assumes nothing.
-use Rattle.units.proofs.Common.{sym, _∙_, refl, ap, ⊎-elim, arith, not-false, not-true, ltb-false, ltb-true, needs}
+use Rattle.units.proofs.Common.{sym, _∙_, ap, ⊎-elim, arith, not-false, not-true, ltb-false, ltb-true, needs}
 use Rattle.dialog.proofs.FieldLaws.{clash}
 use Rattle.fields.specs.declared.field.FormRead.{FormRead}
 use Rattle.lines.specs.Heard.{heardOf}

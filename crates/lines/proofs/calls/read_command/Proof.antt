@@ -1,7 +1,6 @@
 -- The stamp is five fields, the form the sixth, the words are the rest.
 -- Assumes nothing.
-use Rattle.units.proofs.Common.{sym, _∙_, _≡_, refl, ap, ⊎-elim, true, List, ℕ, arith, length, length-map, not-false}
-use Rattle.units.proofs.Common.{not-true, ltb-false, ltb-true, needs, onto, every}
+use Rattle.units.proofs.Common.{sym, _∙_, ap, ⊎-elim, arith, length, length-map, not-false, not-true, ltb-false, ltb-true, needs, every}
 use Rattle.dialog.proofs.FieldLaws.{clash}
 use Rattle.fields.specs.declared.field.FormRead.{FormRead}
 use Rattle.lines.specs.Heard.{heardOf, wordsIn}
@@ -10,8 +9,7 @@ use Rattle.fields.proofs.Places.{words-ok, words-count}
 use Rattle.fields.proofs.Numbers.{all-from, stamp-is-at}
 use Rattle.dialog.proofs.SpokenLaws.{is-command}
 use Rattle.dialog.specs.Fields.{wordOk}
-use Rattle.dialog.specs.Spoken.{commandOk, commandSaid, isForm}
-use Rattle.lines.specs.declared.Heard.{Heard}
+use Rattle.dialog.specs.Spoken.{isForm}
 use Rattle.lines.proofs.calls.read_command.Statement.{statement}
 use Rattle.lines.proofs.calls.read_command.Tie as tie
 

@@ -1,6 +1,6 @@
 -- Two numbers and no field after them; then some words, and all of them within the store.
 -- Assumes nothing.
-use Rattle.units.proofs.Common.{sym, _∙_, refl, ⊎-elim, [], _∷_, arith, now, not-false, not-true, ltb-false, ltb-true, needs}
+use Rattle.units.proofs.Common.{sym, _∙_, ⊎-elim, arith, now, not-false, not-true, ltb-false, ltb-true, needs}
 use Rattle.dialog.proofs.FieldLaws.{clash}
 use Rattle.fields.specs.FieldsAt.{fieldsFrom}
 use Rattle.lines.specs.Heard.{heardOf}

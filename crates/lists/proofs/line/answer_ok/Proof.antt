@@ -2,25 +2,14 @@
 -- Assumes nothing.
 use Rattle.units.proofs.Common.{sym, _∙_, arith, needs}
 use Rattle.meaning.proofs.Terms.{full}
-use Rattle.lists.proofs.Answers.{ok-none, ok-past, ok-read, ok-refused}
+use Rattle.lists.proofs.WordsRead.{ok-none, ok-past, ok-read, ok-refused}
 use Rattle.lists.proofs.line.answer_ok.Statement.{statement}
 use Rattle.lists.proofs.line.answer_ok.Tie as tie
-
-returns : tie.Need-returns
-returns c =
-    let a = c .before .before .args in
-    sym (ok-none full (a .store .now) (a .i) (a .place) (c .if1 .taken))
-
-cast-len : tie.Need-cast-len
-cast-len c = record { fits = omega (arith, c .shared-slice-known2 .given (c .before .before .before .args .place)) }
 
 returns-2 : tie.Need-returns-2
 returns-2 c =
     let a = c .before .before .before .before .args in
     sym (ok-past full (a .store .now) (a .i) (a .place) (omega arith))
-
-enum-told : tie.Need-enum-told
-enum-told c = search needs
 
 returns-3 : tie.Need-returns-3
 returns-3 c =
@@ -37,6 +26,8 @@ returns-4 c =
     sym (ok-refused full (a .store .now) (a .i) (a .place) (g .0 .0) e)
 
 pub answer-ok-spec : {M : Type 1} → statement M
-answer-ok-spec = tie.close (tie.spec returns (λ c. search needs) (λ c. search needs) cast-len (λ c. search needs) returns-2
-    (λ c. search needs) (λ c. search needs) (λ c. search needs) (λ c. search needs) (λ c. search needs) (λ c κs. search needs)
-    (λ c. search needs) (λ c κs. search needs) enum-told returns-3 returns-4)
+answer-ok-spec = tie.close (tie.spec
+    (λ c. let a = c .before .before .args in sym (ok-none full (a .store .now) (a .i) (a .place) (c .if1 .taken))) (λ c. search needs)
+    (λ c. search needs) (λ c. record { fits = omega (arith, c .shared-slice-known2 .given (c .before .before .before .args .place)) })
+    (λ c. search needs) returns-2 (λ c. search needs) (λ c. search needs) (λ c. search needs) (λ c. search needs) (λ c. search needs)
+    (λ c κs. search needs) (λ c. search needs) (λ c κs. search needs) (λ c. search needs) returns-3 returns-4)

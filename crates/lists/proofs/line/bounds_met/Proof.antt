@@ -2,6 +2,7 @@
 -- Assumes nothing.
 use Rattle.units.proofs.Common.{sym, _∙_, _≡_, true, List, _≤_, _-_, _<_, arith, leb, length, drop, getD, length-map, le-leb, lt-leb, needs}
 use Rattle.units.proofs.Common.{yes-and, no-and}
+use Rattle.meaning.specs.Bench.{nodeCount}
 use Rattle.units.specs.declared.Words.{Words}
 use Rattle.meaning.proofs.Terms.{full}
 use Rattle.state.proofs.Terms.{counts, bounded}
@@ -11,13 +12,13 @@ use Rattle.lists.proofs.line.bounds_met.Statement.{statement}
 use Rattle.lists.proofs.line.bounds_met.Tie as tie
 
 abbrev Inv-loop : tie.InvT-loop
-Inv-loop hs i₀ i = (i ≤ 17) × (limited (full .limit) (counts hs) ≡ limited (full .limit) (drop i (counts hs)))
+Inv-loop hs i₀ i = (i ≤ nodeCount full) × (limited (full .limit) (counts hs) ≡ limited (full .limit) (drop i (counts hs)))
 
 abbrev μ-loop : tie.MeasureT-loop
-μ-loop hs i₀ i = 17 - i
+μ-loop hs i₀ i = nodeCount full - i
 
-long : (c : tie.Start Inv-loop μ-loop) → length (counts (c .args .t1)) ≡ 17
-long c = let n : length (c .args .t1) ≡ 17 = search needs in rw length-map n
+long : (c : tie.Start Inv-loop μ-loop) → length (counts (c .args .t1)) ≡ nodeCount full
+long c = let n : length (c .args .t1) ≡ nodeCount full = search needs in rw length-map n
 
 -- past the loop: none does
 all-in : (c : tie.After-loop Inv-loop μ-loop) → limited (full .limit) (counts (c .before .before .args .t1)) ≡ true
@@ -48,10 +49,8 @@ charges-requires c κs =
     let n = long (c .before .before) in
     λ j g. limit-at (full .limit) hs (all-in c) j (omega arith)
 
-returns-2 : tie.Need-returns-2 Inv-loop μ-loop
-unfolding bounded
-returns-2 c = rw (c .before .before .charges .ensures) (sym (yes-and (all-in (c .before .before .before))))
-
 pub bounds-met-spec : {M : Type 1} → statement M
+unfolding bounded
 bounds-met-spec = tie.close (tie.spec Inv-loop μ-loop (λ c. search needs) (λ c. search needs) (λ c. search needs) returns
-    (λ c. search needs) (λ c. search needs) loop-again charges-requires returns-2)
+    (λ c. search needs) (λ c. search needs) loop-again charges-requires
+    (λ c. rw (c .before .before .charges .ensures) (sym (yes-and (all-in (c .before .before .before))))))

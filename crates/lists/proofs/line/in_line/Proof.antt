@@ -2,12 +2,13 @@
 -- Assumes nothing.
 use Rattle.units.proofs.Common.{sym, _∙_, _≡_, refl, ap, ⊎-elim, true, false, true≢false, List, ℕ, _≤_, _-_, _+_, arith, length, drop, getD}
 use Rattle.units.proofs.Common.{not-false, not-true, needs}
+use Rattle.meaning.specs.Bench.{nodeCount}
 use Rattle.units.specs.declared.Words.{Words}
 use Rattle.meaning.proofs.Terms.{full}
 use Rattle.state.proofs.Terms.{counts, zeros}
 use Rattle.state.proofs.Lists.{length-mapped}
 use Rattle.lists.specs.Line.{okAnswer, inLine}
-use Rattle.lists.proofs.Answers.{Lies, lies}
+use Rattle.lists.proofs.WordsRead.{Lies, lies}
 use Rattle.lists.proofs.Charges.{count-at, length-words}
 use Rattle.lists.proofs.Walk.{rest, go-in, go-end, go-on, go-bad, go-out, go-off}
 use Rattle.lists.proofs.line.in_line.Statement.{statement}
@@ -25,17 +26,17 @@ abbrev μ-loop : tie.MeasureT-loop
 
 abbrev Inv-nodes : tie.InvT-nodes
 Inv-nodes store nodes held fine₀ place₀ i₀ fine place i =
-    (i ≤ 17) × (fine ≡ true)
+    (i ≤ nodeCount full) × (fine ≡ true)
     × (inLine full 0 store nodes (counts held) ≡ inLine full i (drop place store) (drop i nodes) (drop i (counts held)))
 
 abbrev μ-nodes : tie.MeasureT-nodes
-μ-nodes store nodes held fine₀ place₀ i₀ fine place i = 17 - i
+μ-nodes store nodes held fine₀ place₀ i₀ fine place i = nodeCount full - i
 
-nodes17 : (c : tie.Start Inv-loop μ-loop Inv-nodes μ-nodes) → length (c .args .t1) ≡ 17
-nodes17 c = search (needs, length-mapped)
+nodes-each : (c : tie.Start Inv-loop μ-loop Inv-nodes μ-nodes) → length (c .args .t1) ≡ nodeCount full
+nodes-each c = search (needs, length-mapped)
 
-helds17 : (c : tie.Start Inv-loop μ-loop Inv-nodes μ-nodes) → length (counts (c .args .t2)) ≡ 17
-helds17 c = let n : length (c .args .t2) ≡ 17 = search needs in length-words (c .args .t2) ∙ n
+helds-each : (c : tie.Start Inv-loop μ-loop Inv-nodes μ-nodes) → length (counts (c .args .t2)) ≡ nodeCount full
+helds-each c = let n : length (c .args .t2) ≡ nodeCount full = search needs in length-words (c .args .t2) ∙ n
 
 -- in the inner loop: the store, the node's index, and what is held
 abbrev words : tie.At-loop Inv-loop μ-loop Inv-nodes μ-nodes → List ℕ
@@ -55,14 +56,11 @@ in-order c = sym (c .before .answer-ok .ensures) ∙ not-false _ (c .if2 .left)
 inside : (c : tie.Else2 Inv-loop μ-loop Inv-nodes μ-nodes) → let l = c .before .before .before .before in Lies (words l) (l .loop .place)
 inside c = lies full _ _ _ (in-order c)
 
-nodes-holds : tie.Need-nodes-holds Inv-loop μ-loop Inv-nodes μ-nodes
-nodes-holds c = (omega arith, refl, refl)
-
 loop-holds : tie.Need-loop-holds Inv-loop μ-loop Inv-nodes μ-nodes
 loop-holds c =
     let s = c .before .before .before .before in
-    let n = nodes17 s in
-    let m = helds17 s in
+    let n = nodes-each s in
+    let m = helds-each s in
     let l = c .before .before .nodes in (
       omega arith,
       omega arith,
@@ -70,14 +68,8 @@ loop-holds c =
       go-in full _ (s .args .store .now) (l .i) (l .place) _ _ (l .inv .2) _ (omega arith) (omega arith),
     )
 
-shared-slice-read-place : tie.Need-shared-slice-read-place Inv-loop μ-loop Inv-nodes μ-nodes
-shared-slice-read-place c = omega (arith, inside (c .before))
-
 cast-place : tie.Need-cast-place Inv-loop μ-loop Inv-nodes μ-nodes
 cast-place c = record { fits = omega (arith, c .shared-slice-known2 .given (c .before .before .before .before .before .loop .place)) }
-
-add-place : tie.Need-add-place Inv-loop μ-loop Inv-nodes μ-nodes
-add-place c = record { fits = omega (arith, inside (c .before)) }
 
 loop-again : tie.Need-loop-again Inv-loop μ-loop Inv-nodes μ-nodes
 loop-again c =
@@ -114,8 +106,8 @@ returns-2 c =
     let f = not-false _ (c .before .if4 .left) in
     let s = c .before .before .before .before .before in
     let store = s .args .store .now in
-    let n = nodes17 s in
-    let h = helds17 s in
+    let n = nodes-each s in
+    let h = helds-each s in
     let m = c .before .before .before .nodes in
     ⊎-elim
     (λ w. c .all-zero .ensures ∙ ap (λ (p : ℕ). zeros (drop p store)) (w .2)
@@ -124,7 +116,8 @@ returns-2 c =
     (l .came)
 
 pub in-line-spec : {M : Type 1} → statement M
-in-line-spec = tie.close (tie.spec Inv-loop μ-loop Inv-nodes μ-nodes nodes-holds (λ c. search needs) (λ c. search needs) loop-holds
-    (λ c κs. search needs) (λ c. search (needs, inside c)) shared-slice-read-place cast-place add-place (λ c. search needs)
-    (λ c. search needs) loop-again (λ c. search needs) (λ c. search needs) (λ c. search needs) (λ c. search needs) (λ c. search needs)
-    (λ c. search needs) nodes-again returns (λ c κs. search needs) returns-2)
+in-line-spec = tie.close (tie.spec Inv-loop μ-loop Inv-nodes μ-nodes (λ c. (omega arith, refl, refl)) (λ c. search needs)
+    (λ c. search needs) loop-holds (λ c κs. search needs) (λ c. search (needs, inside c)) (λ c. omega (arith, inside (c .before)))
+    cast-place (λ c. record { fits = omega (arith, inside (c .before)) }) (λ c. search needs) (λ c. search needs) loop-again
+    (λ c. search needs) (λ c. search needs) (λ c. search needs) (λ c. search needs) (λ c. search needs) (λ c. search needs) nodes-again
+    returns (λ c κs. search needs) returns-2)

@@ -3,11 +3,6 @@ use Rattle.units.proofs.Common.{sym, le-ltb, lt-ltb, needs, yes-cond, no-cond}
 use Rattle.lists.proofs.line.node_at.Statement.{statement}
 use Rattle.lists.proofs.line.node_at.Tie as tie
 
-returns : tie.Need-returns
-returns c = sym (yes-cond _ (lt-ltb _ _ (c .if1 .taken)))
-
-returns-2 : tie.Need-returns-2
-returns-2 c = sym (no-cond _ (le-ltb _ _ (c .if1 .left)))
-
 pub node-at-spec : {M : Type 1} → statement M
-node-at-spec = tie.close (tie.spec (λ c. search needs) (λ c. search needs) returns returns-2)
+node-at-spec = tie.close (tie.spec (λ c. search needs) (λ c. search needs) (λ c. sym (yes-cond _ (lt-ltb _ _ (c .if1 .taken))))
+    (λ c. sym (no-cond _ (le-ltb _ _ (c .if1 .left)))))

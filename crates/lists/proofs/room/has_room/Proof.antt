@@ -1,6 +1,7 @@
 -- Charges may be added up, since no node holds more than the limit.
 -- Assumes nothing.
 use Rattle.units.proofs.Common.{sym, _∙_, _≡_, List, ℕ, _≤_, _+_, _<_, arith, length, getD, set, needs}
+use Rattle.meaning.specs.Bench.{nodeCount}
 use Rattle.meaning.proofs.Terms.{full}
 use Rattle.state.proofs.Terms.{counts, chargesOf}
 use Rattle.state.proofs.Lists.{map-set}
@@ -12,11 +13,11 @@ use Rattle.lists.proofs.room.has_room.Tie as tie
 abbrev holds : tie.Start → List ℕ
 holds c = counts (c .args .held)
 
-long : (c : tie.Start) → length (holds c) ≡ 17
-long c = let n : length (c .args .held) ≡ 17 = search needs in length-words (c .args .held) ∙ n
+long : (c : tie.Start) → length (holds c) ≡ nodeCount full
+long c = let n : length (c .args .held) ≡ nodeCount full = search needs in length-words (c .args .held) ∙ n
 
 -- no node holds more than the limit
-held-few : (c : tie.Start) → (i : ℕ) → i < 17 → getD (holds c) i 0 ≤ full .limit
+held-few : (c : tie.Start) → (i : ℕ) → i < nodeCount full → getD (holds c) i 0 ≤ full .limit
 held-few c i h = bounded-at full (holds c) (c .pre .0) i (omega (arith, long c))
 
 sub-if1 : tie.Need-sub-if1
@@ -38,7 +39,7 @@ charges-requires c κs =
     let f = held-few s (a .i) (s .pre .1) in
     let v = (getD (a .held) (a .i) (record { 0 = 0 })) .0 + a .new .0 in
     let l = long s in
-    let t : (j : ℕ) → j < 17 → getD (counts (set (a .held) (a .i) (record { 0 = v }))) j 0 ≤ full .limit = λ j g.
+    let t : (j : ℕ) → j < nodeCount full → getD (counts (set (a .held) (a .i) (record { 0 = v }))) j 0 ≤ full .limit = λ j g.
     rw map-set (set-within (holds s) (a .i) v (full .limit) (omega arith) (λ k h. held-few s k (omega arith)) j (omega arith)) in
     t
 

@@ -1,6 +1,7 @@
 -- sum is the words of the first k nodes.
 -- Assumes nothing.
 use Rattle.units.proofs.Common.{_∙_, _≡_, ap, List, _≤_, _-_, _<_, _*_, arith, length, length-map, needs}
+use Rattle.meaning.specs.Bench.{nodeCount, full}
 use Rattle.units.specs.declared.Words.{Words}
 use Rattle.state.proofs.Terms.{counts}
 use Rattle.lists.specs.Room.{sum, placeOf}
@@ -15,15 +16,11 @@ Inv-loop i held sum₀ k₀ sum k = (k ≤ i) × (sum ≤ 65535 * k) × (sum ≡
 abbrev μ-loop : tie.MeasureT-loop
 μ-loop i held sum₀ k₀ sum k = i - k
 
-loop-holds : tie.Need-loop-holds Inv-loop μ-loop
-unfolding sum
-loop-holds c = search needs
-
 loop-again : tie.Need-loop-again Inv-loop μ-loop
 loop-again c =
     let hs : List Words = c .before .before .before .before .args .t1 in
     let k = c .before .before .before .loop .k in
-    let n : length hs ≡ 17 = search needs in
+    let n : length hs ≡ nodeCount full = search needs in
     let l : k < length (counts hs) = rw length-map (omega arith) in
     (omega arith, omega arith, omega (arith, place-suc (counts hs) k l, count-at hs k))
 
@@ -33,5 +30,6 @@ returns c =
     c .before .loop .inv .2 ∙ ap (placeOf (counts (c .before .before .args .t1))) e
 
 pub place-of-spec : {M : Type 1} → statement M
-place-of-spec = tie.close (tie.spec Inv-loop μ-loop loop-holds (λ c. search needs) (λ c. search needs) (λ c. search needs)
+unfolding sum
+place-of-spec = tie.close (tie.spec Inv-loop μ-loop (λ c. search needs) (λ c. search needs) (λ c. search needs) (λ c. search needs)
     (λ c. search needs) (λ c. search needs) (λ c. search needs) loop-again returns)

@@ -2,7 +2,7 @@
 use Rattle.units.proofs.Common.{sym, _∙_, now, not-false, not-true, needs}
 use Rattle.meaning.proofs.Terms.{full, check}
 use Rattle.state.proofs.Terms.{Machine, machine}
-use Rattle.promise.specs.Obeyed.{spoken}
+use Rattle.promise.specs.Obeyed.{saidOf}
 use Rattle.promise.proofs.Commands.{checked-3, checked-7}
 use Rattle.answers.specs.Ordered.{looking}
 use Rattle.answers.proofs.Indices.{slot-out, slot-in}
@@ -16,7 +16,7 @@ whole s = machine (s .args .t1) (now (s .args .store)) (now (s .args .plaques))
 
 -- 7
 returns-2 : tie.Need-returns-2
-unfolding spoken
+unfolding saidOf
 returns-2 c =
     let f = c .before .before .before in
     let s = f .before .before .before .before in
@@ -39,7 +39,7 @@ returns-3 c =
     (r .looked .ensures) (c .seated .ensures))
 
 pub check-spec : {M : Type 1} → statement M
-unfolding spoken
+unfolding saidOf
 check-spec = tie.close (tie.spec (λ c κs. search needs) (λ c κs. search needs)
     (λ c. let s = c .before .before .before .before .before in
     called (c .refused .ensures) (stepped (check (s .args .node) (s .args .t) (s .args .clock)) (s .pre)

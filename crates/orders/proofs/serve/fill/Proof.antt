@@ -1,12 +1,14 @@
 -- A fill that goes past the plaque's end is refused; else its answer is due, and the region is filled (`Serving`).
-use Rattle.units.proofs.Common.{lit≤, needs}
-use Rattle.orders.proofs.Serving.{sayable, fill-past, fill-due}
+use Rattle.units.proofs.Common.{refl, lit≤, needs}
+use Rattle.meaning.proofs.Terms.{tagged}
+use Rattle.orders.proofs.Serving.{sayable, past-refused, fill-due}
 use Rattle.orders.proofs.serve.fill.Statement.{statement}
 use Rattle.orders.proofs.serve.fill.Tie as tie
 
 pub fill-spec : {M : Type 1} → statement M
+unfolding tagged
 fill-spec = tie.close (tie.spec (λ c κs. search needs) (λ c κs. search needs)
-    (λ c. fill-past _ (c .before .before .past .ensures) (c .before .before .before .before .before .before .before .pre)
+    (λ c. past-refused _ (c .before .before .past .ensures) _ refl (c .before .before .before .before .before .before .before .pre)
     (c .before .if1 .taken) (c .refused .ensures))
     (λ c. search needs) (λ c. search needs) (λ c κs. search needs) (λ c κs. search needs) (λ c. search needs)
     (λ c κs. sayable

@@ -1,12 +1,14 @@
 -- A read that goes past the plaque's end is refused; else the part of the region is said, and its answer is due (`Serving`).
-use Rattle.orders.proofs.Serving.{in-region, not-past, read-past, read-sayable, read-due}
-use Rattle.units.proofs.Common.{needs}
+use Rattle.orders.proofs.Serving.{in-region, not-past, past-refused, read-sayable, read-due}
+use Rattle.units.proofs.Common.{refl, needs}
+use Rattle.meaning.proofs.Terms.{tagged}
 use Rattle.orders.proofs.serve.read.Statement.{statement}
 use Rattle.orders.proofs.serve.read.Tie as tie
 
 pub read-spec : {M : Type 1} → statement M
+unfolding tagged
 read-spec = tie.close (tie.spec (λ c κs. search needs) (λ c κs. search needs)
-    (λ c. read-past _ (c .before .before .past .ensures) (c .before .before .before .before .before .before .before .pre)
+    (λ c. past-refused _ (c .before .before .past .ensures) _ refl (c .before .before .before .before .before .before .before .pre)
     (c .before .if1 .taken) (c .refused .ensures))
     (λ c. search needs) (λ c. search needs) (λ c. search needs) (λ c κs. search needs) (λ c. search needs) (λ c. search needs)
     (λ c. in-region (c .before .before .before .before .before .before .before .before .before .pre .0 .readable)

@@ -1,12 +1,14 @@
 -- A write that goes past the plaque's end is refused; else its answer is due, and the bytes are written (`Serving`).
-use Rattle.units.proofs.Common.{lit≤, needs}
-use Rattle.orders.proofs.Serving.{sayable, write-past, write-due}
+use Rattle.units.proofs.Common.{refl, lit≤, needs}
+use Rattle.meaning.proofs.Terms.{tagged}
+use Rattle.orders.proofs.Serving.{sayable, past-refused, write-due}
 use Rattle.orders.proofs.serve.write.Statement.{statement}
 use Rattle.orders.proofs.serve.write.Tie as tie
 
 pub write-spec : {M : Type 1} → statement M
+unfolding tagged
 write-spec = tie.close (tie.spec (λ c κs. search needs) (λ c κs. search needs)
-    (λ c. write-past _ (c .before .before .past .ensures) (c .before .before .before .before .before .before .before .pre)
+    (λ c. past-refused _ (c .before .before .past .ensures) _ refl (c .before .before .before .before .before .before .before .pre)
     (c .before .if1 .taken) (c .refused .ensures))
     (λ c. search needs) (λ c. search needs) (λ c κs. search needs) (λ c. search needs)
     (λ c κs. sayable (c .before .before .before .before .before .before .before .before .before .before .before .pre .0 .readable)

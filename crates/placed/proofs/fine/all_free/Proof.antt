@@ -11,9 +11,6 @@ Inv-loop used place len end w₀ w = (place ≤ w) × (w ≤ end) × ((v : ℕ) 
 abbrev μ-loop : tie.MeasureT-loop
 μ-loop used place len end w₀ w = end - w
 
-loop-holds : tie.Need-loop-holds Inv-loop μ-loop
-loop-holds c = (omega arith, omega arith, λ v a b. absurd (omega arith))
-
 returns : tie.Need-returns Inv-loop μ-loop
 returns c = inr (refl, record { place = c .before .before .before .loop .w; from = omega arith; to = omega arith; marked = c .if1 .taken })
 
@@ -28,9 +25,7 @@ loop-again c =
           (below-or v w),
     )
 
-returns-2 : tie.Need-returns-2 Inv-loop μ-loop
-returns-2 c = inl (refl, λ v a b. c .before .loop .inv .2 v a (omega arith))
-
 pub all-free-spec : {M : Type 1} → statement M
-all-free-spec = tie.close (tie.spec Inv-loop μ-loop (λ c. search needs) loop-holds (λ c. search needs) returns (λ c. search needs)
-    (λ c. search needs) loop-again returns-2)
+all-free-spec = tie.close (tie.spec Inv-loop μ-loop (λ c. search needs) (λ c. (omega arith, omega arith, λ v a b. absurd (omega arith)))
+    (λ c. search needs) returns (λ c. search needs) (λ c. search needs) loop-again
+    (λ c. inl (refl, λ v a b. c .before .loop .inv .2 v a (omega arith))))

@@ -28,8 +28,8 @@ Inv-nodes store nodes used₀ fine₀ i₀ used fine i = (i ≤ 17) × (fine ≡
 abbrev μ-nodes : tie.MeasureT-nodes
 μ-nodes store nodes used₀ fine₀ i₀ used fine i = 17 - i
 
-nodes17 : (c : tie.Start Inv-loop μ-loop Inv-nodes μ-nodes) → length (c .args .t1) ≡ 17
-nodes17 c = search (needs, length-mapped)
+nodes-each : (c : tie.Start Inv-loop μ-loop Inv-nodes μ-nodes) → length (c .args .t1) ≡ 17
+nodes-each c = search (needs, length-mapped)
 
 -- in the inner loop: the words of the store, the node's index, and the place of the answer
 abbrev words : tie.In-loop Inv-loop μ-loop Inv-nodes μ-nodes → List ℕ
@@ -57,7 +57,7 @@ nodes-holds c = (omega arith, refl, walk-start _ _ _ _ _ (length-replicate 4096 
 loop-holds : tie.Need-loop-holds Inv-loop μ-loop Inv-nodes μ-nodes
 loop-holds c =
     let s = c .before .before .before .before .before in
-    let n = nodes17 s in
+    let n = nodes-each s in
     let e = node-any (s .args .t1) (c .before .before .before .nodes .i) (omega arith) in (
       omega arith,
       omega arith,
@@ -66,30 +66,15 @@ loop-holds c =
           (c .before .before .before .nodes .inv .2),
     )
 
-mul-len : tie.Need-mul-len Inv-loop μ-loop Inv-nodes μ-nodes
-mul-len c = record { fits = omega (arith, inside c) }
-
 shared-slice-read-len : tie.Need-shared-slice-read-len Inv-loop μ-loop Inv-nodes μ-nodes
 shared-slice-read-len c =
     let s = c .before .before .before .before .before .before .before .before .before .before in
     omega (arith, inside (c .before), lies _ _ _ _ (in-order (c .before)) .least, s .pre)
 
-cast-len : tie.Need-cast-len Inv-loop μ-loop Inv-nodes μ-nodes
-cast-len c = record { fits = omega (arith, c .shared-slice-known2 .given (spot (c .before .before .before))) }
-
-all-free-requires : tie.Need-all-free-requires Inv-loop μ-loop Inv-nodes μ-nodes
-all-free-requires c κs = inside (c .before .before)
-
 mark-requires : tie.Need-mark-requires Inv-loop μ-loop Inv-nodes μ-nodes
 mark-requires c κs =
     let p = c .before .before .before .before .before in let l = p .before .before .before in
     (inside p, l .loop .inv .3 .long)
-
-add-place : tie.Need-add-place Inv-loop μ-loop Inv-nodes μ-nodes
-add-place c = record { fits = omega (arith, inside (c .before .before .before .before .before .before)) }
-
-add-k : tie.Need-add-k Inv-loop μ-loop Inv-nodes μ-nodes
-add-k c = record { fits = omega (arith, inside (c .before .before .before .before .before .before)) }
 
 loop-again : tie.Need-loop-again Inv-loop μ-loop Inv-nodes μ-nodes
 loop-again c =
@@ -114,7 +99,7 @@ nodes-again c = (
 
 returns : tie.Need-returns Inv-loop μ-loop Inv-nodes μ-nodes
 returns c =
-    let n = nodes17 (c .before .before .before) in
+    let n = nodes-each (c .before .before .before) in
     c .before .nodes .inv .1 ∙ sym (walk-end _ _ _ _ _ (c .before .nodes .i) (omega arith) (c .before .nodes .inv .2))
 
 returns-2 : tie.Need-returns-2 Inv-loop μ-loop Inv-nodes μ-nodes
@@ -134,5 +119,9 @@ returns-3 c =
 
 pub fine-lists-spec : {M : Type 1} → statement M
 fine-lists-spec = tie.close (tie.spec Inv-loop μ-loop Inv-nodes μ-nodes nodes-holds (λ c. search needs) (λ c. search needs) loop-holds
-    (λ c κs. search needs) mul-len shared-slice-read-len cast-len all-free-requires mark-requires add-place add-k (λ c. search needs)
-    loop-again (λ c. search needs) (λ c. search needs) nodes-again returns returns-2 returns-3)
+    (λ c κs. search needs) (λ c. record { fits = omega (arith, inside c) }) shared-slice-read-len
+    (λ c. record { fits = omega (arith, c .shared-slice-known2 .given (spot (c .before .before .before))) })
+    (λ c κs. inside (c .before .before)) mark-requires
+    (λ c. record { fits = omega (arith, inside (c .before .before .before .before .before .before)) })
+    (λ c. record { fits = omega (arith, inside (c .before .before .before .before .before .before)) }) (λ c. search needs) loop-again
+    (λ c. search needs) (λ c. search needs) nodes-again returns returns-2 returns-3)

@@ -15,14 +15,14 @@ Inv-loop nodes hs₀ i₀ hs i = (i ≤ 17) × (length hs ≡ 17) × (take i (co
 abbrev μ-loop : tie.MeasureT-loop
 μ-loop nodes hs₀ i₀ hs i = 17 - i
 
-nodes17 : (c : tie.Start Inv-loop μ-loop) → length (c .args .t1) ≡ 17
-nodes17 c = search (needs, length-mapped)
+nodes-each : (c : tie.Start Inv-loop μ-loop) → length (c .args .t1) ≡ 17
+nodes-each c = search (needs, length-mapped)
 
 loop-again : tie.Need-loop-again Inv-loop μ-loop
 loop-again c =
     let ns = c .before .before .before .before .before .args .t1 in
     let l = c .before .before .before .before .loop in
-    let m = nodes17 (c .before .before .before .before .before) in
+    let m = nodes-each (c .before .before .before .before .before) in
     let n = length-words ns ∙ m in
     let e = ap (λ (x : Node). x .list .words .0) (node-any ns (l .i) (omega arith)) ∙ sym (words-at ns (l .i)) in
     (omega arith, simp length-set (omega arith), filled (λ w. w .0) (l .hs) _ (l .i) _ 0 (omega arith) (omega arith) (l .inv .2) e)
@@ -30,7 +30,7 @@ loop-again c =
 returns : tie.Need-returns Inv-loop μ-loop
 returns c =
     let l = c .before .loop in
-    let n = length-words (c .before .before .args .t1) ∙ nodes17 (c .before .before) in
+    let n = length-words (c .before .before .args .t1) ∙ nodes-each (c .before .before) in
     let m : length (counts (l .hs)) ≡ 17 = rw length-map (l .inv .1) in
     sym (take-all (l .i) _ (omega arith)) ∙ l .inv .2 ∙ take-all (l .i) _ (omega arith)
 

@@ -28,19 +28,6 @@ next c =
     (sym (c .before .loop .inv .1)) in
     lies _ _ _ _ (subst (λ (p : ℕ). okAnswer full (a .store .now) (a .i) p ≡ true) e (c .before .before .pre .0 k (c .loop-test .taken)))
 
-loop-holds : tie.Need-loop-holds Inv-loop μ-loop
-unfolding added startsOf
-loop-holds c = search needs
-
-add-place : tie.Need-add-place Inv-loop μ-loop
-add-place c = record { fits = omega (arith, next (c .before) .inside, c .before .before .before .pre .1) }
-
-mul-sum : tie.Need-mul-sum Inv-loop μ-loop
-mul-sum c = record { fits = omega (arith, next (c .before) .inside, c .before .before .before .pre .1) }
-
-shared-slice-read-sum : tie.Need-shared-slice-read-sum Inv-loop μ-loop
-shared-slice-read-sum c = omega (arith, next (c .before .before) .inside, next (c .before .before) .least)
-
 cast-sum : tie.Need-cast-sum Inv-loop μ-loop
 cast-sum c =
     let a = c .before .before .before .before .args in
@@ -69,5 +56,9 @@ returns c =
     ap (λ (s : ℕ). eqb (a .list .words .0) s) (c .before .before .loop .inv .1 ∙ ap (λ (j : ℕ). span (a .store .now) j (a .list .place)) e)
 
 pub is-counted-spec : {M : Type 1} → statement M
-is-counted-spec = tie.close (tie.spec Inv-loop μ-loop loop-holds add-place mul-sum shared-slice-read-sum cast-sum add-sum
-    (λ c. search needs) (λ c. search needs) loop-again (λ c. search needs) returns)
+unfolding added startsOf
+is-counted-spec = tie.close (tie.spec Inv-loop μ-loop (λ c. search needs)
+    (λ c. record { fits = omega (arith, next (c .before) .inside, c .before .before .before .pre .1) })
+    (λ c. record { fits = omega (arith, next (c .before) .inside, c .before .before .before .pre .1) })
+    (λ c. omega (arith, next (c .before .before) .inside, next (c .before .before) .least)) cast-sum add-sum (λ c. search needs)
+    (λ c. search needs) loop-again (λ c. search needs) returns)

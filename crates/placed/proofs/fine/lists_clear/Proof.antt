@@ -14,14 +14,14 @@ Inv-loop nodes i₀ i = (i ≤ 17) × (every listClear nodes ≡ every listClear
 abbrev μ-loop : tie.MeasureT-loop
 μ-loop nodes i₀ i = 17 - i
 
-nodes17 : (c : tie.Start Inv-loop μ-loop) → length (c .args .t1) ≡ 17
-nodes17 c = search (needs, length-mapped)
+nodes-each : (c : tie.Start Inv-loop μ-loop) → length (c .args .t1) ≡ 17
+nodes-each c = search (needs, length-mapped)
 
 returns : tie.Need-returns Inv-loop μ-loop
 unfolding listClear
 returns c =
     let p = c .before .before .before .before .before .before .before in let s = p .before in
-    let n = nodes17 s in
+    let n = nodes-each s in
     let l = p .loop in
     let e = yes-cond _ (eq-eqb _ _ (c .before .before .if1 .taken)) ∙ not-true _ (c .if2 .taken) in
     sym (l .inv .1 ∙ every-at listClear (s .args .t1) (l .i) _ (omega arith) ∙ no-and _ e)
@@ -30,7 +30,7 @@ loop-again : tie.Need-loop-again Inv-loop μ-loop
 unfolding listClear
 loop-again c =
     let p = c .before .before .before .before .before in let s = p .before in
-    let n = nodes17 s in
+    let n = nodes-each s in
     let l = p .loop in
     let e : listClear (getD (s .args .t1) (l .i) blank) ≡ true =
     ⊎-elim
@@ -41,7 +41,7 @@ loop-again c =
 
 returns-2 : tie.Need-returns-2 Inv-loop μ-loop
 returns-2 c =
-    let n = nodes17 (c .before .before) in
+    let n = nodes-each (c .before .before) in
     sym (c .before .loop .inv .1 ∙ every-end listClear _ (c .before .loop .i) (omega arith))
 
 pub lists-clear-spec : {M : Type 1} → statement M

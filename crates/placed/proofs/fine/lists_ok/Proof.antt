@@ -2,7 +2,7 @@
 use Rattle.units.proofs.Common.{sym, _∙_, _≡_, ap, true, not-false, not-true, needs, every, yes-and, no-and}
 use Rattle.meaning.proofs.Terms.{full}
 use Rattle.state.proofs.Terms.{bounded}
-use Rattle.placed.specs.Consistent.{fineLists, counted, heldsOf, listsOk}
+use Rattle.placed.specs.Consistent.{fineLists, countRight, heldsOf, listsOk}
 use Rattle.placed.proofs.InOrder.{counted-is}
 use Rattle.placed.proofs.fine.lists_ok.Statement.{statement}
 use Rattle.placed.proofs.fine.lists_ok.Tie as tie
@@ -12,7 +12,7 @@ fine : (c : tie.Else1) → fineLists full (c .before .before .before .args .stor
 fine c = sym (c .before .fine-lists .ensures) ∙ not-false _ (c .if1 .left)
 
 -- past the second
-right : (c : tie.Else2) → every (counted (c .before .before .before .before .before .args .store .now))
+right : (c : tie.Else2) → every (countRight (c .before .before .before .before .before .args .store .now))
     (c .before .before .before .before .before .args .nodes) ≡ true
 right c = sym (c .before .all-counted .ensures) ∙ not-false _ (c .if2 .left)
 
@@ -21,13 +21,6 @@ bounds : (c : tie.After-bounds-met) → bounded full (heldsOf (c .before .before
     (c .before .before .before .before .before .before .before .args .nodes)) ≡ c .bounds-met .result
 bounds c = ap (bounded full) (sym (counted-is _ _ (right (c .before .before))) ∙ sym (c .before .helds .ensures)) ∙ sym
     (c .bounds-met .ensures)
-
-returns : tie.Need-returns
-unfolding listsOk
-returns c = sym (no-and _ (sym (c .before .fine-lists .ensures) ∙ not-true _ (c .if1 .taken)))
-
-all-counted-requires : tie.Need-all-counted-requires
-all-counted-requires c κs = (c .before .before .before .pre, fine c)
 
 returns-2 : tie.Need-returns-2
 unfolding listsOk
@@ -48,5 +41,8 @@ returns-4 c =
     (bounds (c .before .before) ∙ not-false _ (c .before .if3 .left)))
 
 pub lists-ok-spec : {M : Type 1} → statement M
-lists-ok-spec = tie.close (tie.spec (λ c κs. search needs) returns all-counted-requires returns-2 (λ c κs. search needs)
-    (λ c κs. search needs) returns-3 (λ c κs. search needs) returns-4)
+unfolding listsOk
+lists-ok-spec = tie.close (tie.spec (λ c κs. search needs)
+    (λ c. sym (no-and _ (sym (c .before .fine-lists .ensures) ∙ not-true _ (c .if1 .taken))))
+    (λ c κs. (c .before .before .before .pre, fine c)) returns-2 (λ c κs. search needs) (λ c κs. search needs) returns-3
+    (λ c κs. search needs) returns-4)

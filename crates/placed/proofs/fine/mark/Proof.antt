@@ -15,9 +15,6 @@ abbrev μ-loop : tie.MeasureT-loop
 loop-holds : tie.Need-loop-holds Inv-loop μ-loop
 loop-holds c = (omega arith, omega arith, (let e : c .args .place - c .args .place ≡ 0 = omega arith in rw e (marked-none _ _)))
 
-element-write-used : tie.Need-element-write-used Inv-loop μ-loop
-element-write-used c = omega (arith, c .before .loop .inv .2 .long, c .before .before .pre .1)
-
 loop-again : tie.Need-loop-again Inv-loop μ-loop
 loop-again c =
     let a = c .before .before .args in
@@ -36,5 +33,6 @@ returns c =
     rw e at (c .before .loop .inv .2)
 
 pub mark-spec : {M : Type 1} → statement M
-mark-spec = tie.close (tie.spec Inv-loop μ-loop (λ c. search needs) loop-holds element-write-used (λ c. search needs)
-    (λ c. search needs) loop-again returns)
+mark-spec = tie.close (tie.spec Inv-loop μ-loop (λ c. search needs) loop-holds
+    (λ c. omega (arith, c .before .loop .inv .2 .long, c .before .before .pre .1)) (λ c. search needs) (λ c. search needs) loop-again
+    returns)

@@ -5,14 +5,8 @@ use Rattle.runfile.proofs.Records.{no-command, a-command}
 use Rattle.runfile.proofs.cursor.command_of.Statement.{statement}
 use Rattle.runfile.proofs.cursor.command_of.Tie as tie
 
-returns : tie.Need-returns
-returns c = no-command _ (λ f. omega arith)
-
 returns-2 : tie.Need-returns-2
 returns-2 c = ⊎-elim (λ w. no-command _ (λ f. omega arith)) (λ w. no-command _ (λ f. omega (arith, ltb-true))) (c .if2 .came)
-
-returns-3 : tie.Need-returns-3
-returns-3 c = no-command _ (λ f. omega arith)
 
 returns-4 : tie.Need-returns-4
 returns-4 c =
@@ -20,5 +14,5 @@ returns-4 c =
     (a-command _ (record { low = omega arith; high = omega (arith, ltb-false); there = omega arith }))
 
 pub command-of-spec : {M : Type 1} → statement M
-command-of-spec = tie.close (tie.spec returns (λ c κs. search needs) returns-2 (λ c κs. omega (arith, ltb-false)) (λ c. search needs)
-    (λ c. search needs) returns-3 returns-4)
+command-of-spec = tie.close (tie.spec (λ c. no-command _ (λ f. omega arith)) (λ c κs. search needs) returns-2
+    (λ c κs. omega (arith, ltb-false)) (λ c. search needs) (λ c. search needs) (λ c. no-command _ (λ f. omega arith)) returns-4)

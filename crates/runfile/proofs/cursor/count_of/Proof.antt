@@ -5,11 +5,6 @@ use Rattle.runfile.proofs.Records.{no-count, a-count}
 use Rattle.runfile.proofs.cursor.count_of.Statement.{statement}
 use Rattle.runfile.proofs.cursor.count_of.Tie as tie
 
-returns : tie.Need-returns
-returns c = no-count _ (λ h. omega arith)
-
-returns-2 : tie.Need-returns-2
-returns-2 c = rw (c .two-at .ensures) (a-count _ (omega arith))
-
 pub count-of-spec : {M : Type 1} → statement M
-count-of-spec = tie.close (tie.spec returns (λ c κs. search needs) returns-2)
+count-of-spec = tie.close (tie.spec (λ c. no-count _ (λ h. omega arith)) (λ c κs. search needs)
+    (λ c. rw (c .two-at .ensures) (a-count _ (omega arith))))

@@ -6,17 +6,11 @@ use Rattle.runfile.proofs.Records.{no-plaque, a-plaque}
 use Rattle.runfile.proofs.cursor.plaque_of.Statement.{statement}
 use Rattle.runfile.proofs.cursor.plaque_of.Tie as tie
 
-returns : tie.Need-returns
-returns c = no-plaque full _ (λ f. omega arith)
-
 returns-2 : tie.Need-returns-2
 returns-2 c = ⊎-elim (λ w. no-plaque full _ (λ f. omega arith)) (λ w. no-plaque full _ (λ f. omega (arith, ltb-true))) (c .if2 .came)
 
 returns-3 : tie.Need-returns-3
 returns-3 c = ⊎-elim (λ w. no-plaque full _ (λ f. omega arith)) (λ w. no-plaque full _ (λ f. omega (arith, ltb-true))) (c .if4 .came)
-
-returns-4 : tie.Need-returns-4
-returns-4 c = no-plaque full _ (λ f. omega arith)
 
 returns-5 : tie.Need-returns-5
 returns-5 c =
@@ -32,5 +26,5 @@ returns-5 c =
     }))
 
 pub plaque-of-spec : {M : Type 1} → statement M
-plaque-of-spec = tie.close (tie.spec returns (λ c. search needs) returns-2 (λ c κs. search needs) returns-3 (λ c. search needs)
-    (λ c. search needs) returns-4 returns-5)
+plaque-of-spec = tie.close (tie.spec (λ c. no-plaque full _ (λ f. omega arith)) (λ c. search needs) returns-2 (λ c κs. search needs)
+    returns-3 (λ c. search needs) (λ c. search needs) (λ c. no-plaque full _ (λ f. omega arith)) returns-5)

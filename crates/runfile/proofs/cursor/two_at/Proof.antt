@@ -4,8 +4,6 @@ use Rattle.units.proofs.Common.{needs}
 use Rattle.runfile.proofs.cursor.two_at.Statement.{statement}
 use Rattle.runfile.proofs.cursor.two_at.Tie as tie
 
-returns : tie.Need-returns
-returns c = c .word .ensures
-
 pub two-at-spec : {M : Type 1} → statement M
-two-at-spec = tie.close (tie.spec (λ c. search needs) (λ c. search needs) (λ c. search needs) (λ c κs. search needs) returns)
+two-at-spec = tie.close (tie.spec (λ c. search needs) (λ c. search needs) (λ c. search needs) (λ c κs. search needs)
+    (λ c. c .word .ensures))
