@@ -3,7 +3,7 @@
 use Rattle.units.proofs.Common.{sym, ◌∙◌, ◌≡◌, refl, ap, subst, true, List, [], ℕ, ◌≤◌, ◌-◌, arith, length, get_or, is_stamp}
 use Rattle.units.specs.declared.Words.{Words}
 use Rattle.units.specs.declared.stamp.Stamp.{Stamp}
-use Rattle.meaning.proofs.Terms.{full, hub, longest_packet, Gateway, set_reader, Local, quiet, lifted, settled, obeyed, looked, governed}
+use Rattle.meaning.proofs.Terms.{full, hub, overall, Gateway, set_reader, Local, quiet, lifted, settled, obeyed, looked, governed}
 use Rattle.meaning.specs.Gateway as M
 use Rattle.meaning.specs.declared.table.Kind.{Kind}
 use Rattle.meaning.specs.declared.packet.Command.{Command}
@@ -40,7 +40,7 @@ use Rattle.acts.proofs.Counts.{obeyed_count, looked_count, governed_count}
 
 -- ---- at a reader
 module _ {n : ℕ} {own : Node} {x : Reader} {held : List Words} {store memory : List ℕ} (a : Seatable full n own x held store memory) where
-  pub readable : {t : Stamp} → is_stamp t ≡ true → {room : ℕ} → longest_packet ≤ room
+  pub readable : {t : Stamp} → is_stamp t ≡ true → {room : ℕ} → overall 255 ≤ room
       → Readable full n t x (length (Lent n a.is memory (memory_long a))) room
   readable g l = record {
     reader = a.is;
@@ -134,7 +134,7 @@ module _ {n : ℕ} {own : Node} {x : Reader} {held : List Words} {store memory :
 -- ---- at the gateway's own node
 module _ {nodes : List Node} {held : List Words} {name : Name} {store : List ℕ} (a : Houseable full nodes held name store) where
   pub governable : (t : Stamp) (k : Kind) (c : Command) (ws : List ℕ) → is_stamp t ≡ true → LimitedOf full k c ws → {room : ℕ}
-      → longest_packet ≤ room → Governable full t k c ws name room
+      → overall 255 ≤ room → Governable full t k c ws name room
   governable t k c ws g o {room} l =
       let p = parts full (machine a.state store a.memory) a.fit in
       rw (← a.house.title) (record { stamp = g; told = o; in_order = p.name; wide = p.wide; long = l })

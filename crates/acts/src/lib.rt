@@ -1,4 +1,7 @@
-// What its own node makes of a call, settled on the parts of the state it may change, for a caller that owns the state and puts them back.
+// What its own node makes of a call, settled: on the parts of the state that the call may change, for a caller that owns the state and puts
+// them back.
+#![tactic(auto)]
+
 ghost use Rattle.std.specs.Prelude.{◌≡◌, true};
 ghost use Rattle.units.specs.Stamp.{is_stamp};
 ghost use Rattle.meaning.specs.Bench.{full};

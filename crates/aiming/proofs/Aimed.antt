@@ -6,11 +6,10 @@ use Rattle.units.specs.declared.Form.{Form}
 use Rattle.units.specs.declared.Words.{Words}
 use Rattle.units.specs.declared.Bytes.{Bytes}
 use Rattle.units.specs.declared.stamp.Stamp.{Stamp}
-use Rattle.meaning.proofs.Terms.{full, hub, is_reader, is_node, asked, judged}
+use Rattle.meaning.proofs.Terms.{full, hub, is_reader, is_node, command, asked, judged, command_in, kind_in}
+use Rattle.meaning.specs.declared.table.Kind.{Kind}
+use Rattle.meaning.specs.declared.packet.Command.{Command}
 use Rattle.meaning.proofs.Chain.{none, this, pass_if, stop_if}
-use Rattle.command.specs.Judged.{judged_command}
-use Rattle.command.specs.declared.Judged.{Judged}
-use Rattle.command.proofs.Judging.{its_refusal, its_kind, its_command}
 use Rattle.lines.specs.declared.Heard.{Heard}
 use Rattle.aiming.specs.declared.Aside.{Aside}
 use Rattle.aiming.specs.declared.Want.{Want}
@@ -26,30 +25,35 @@ goes : {k : ℕ} (w : Whom) → k ≡ 0 → w ≡ unless_refused k w
 goes {k} w e = sym (yes_cond (Whom.Nobody (Aside.Refused k)) (eq-eqb k 0 e))
 
 -- ---- a command, as `judge_command` judges it
-module _ (t : Stamp) (f : Form) (n : Words) (ws : List ℕ) {j : Judged} (e : j ≡ judged_command full t f (take n.0 ws)) where
-  pub command_stops : (j.refusal ≡ 0 → ⊥) → Whom.Nobody (Aside.Refused j.refusal) ≡ aimed full (Heard.Command t f n) ws
+module _ (t : Stamp) (f : Form) (n : Words) (ws : List ℕ) where
+  pub command_stops : {k : ℕ} → k ≡ judged full (command t f (take n.0 ws)) → (k ≡ 0 → ⊥)
+      → Whom.Nobody (Aside.Refused k) ≡ aimed full (Heard.Command t f n) ws
   unfolding aimed
-  command_stops d = stops j.refusal _ (sym (its_refusal full t f (take n.0 ws) e)) (ne_eqb j.refusal 0 d)
+  command_stops {k} e d = stops k _ (sym e) (ne_eqb k 0 d)
 
-  module _ (z : j.refusal ≡ 0) where
-    abbrev order : Order
-    order = record { stamp = t; form = f; words = n; kind = j.kind; what = j.what }
-
-    order_is : order ≡ order_of full t f n ws
+  module _ (e : judged full (command t f (take n.0 ws)) ≡ 0) {k : Kind} {c : Command} (kind : k ≡ kind_in full f (take n.0 ws))
+      (what : c ≡ command_in f (take n.0 ws)) where
+    order_is : ◌≡◌ {A = Order} (record { stamp = t; form = f; words = n; kind = k; what = c }) (order_of full t f n ws)
     unfolding order_of
-    order_is = rw (its_kind full t f (take n.0 ws) e, its_command full t f (take n.0 ws) e)
+    order_is =
+        ap (λ (k : Kind). record { stamp = t; form = f; words = n; kind = k; what = c }) kind
+        ∙ ap (λ (c : Command). record { stamp = t; form = f; words = n; kind = kind_in full f (take n.0 ws); what = c }) what
 
-    aims : {w : Whom} → w ≡ for_node full order → w ≡ aimed full (Heard.Command t f n) ws
+    aims : {w : Whom} → w ≡ for_node full (record { stamp = t; form = f; words = n; kind = k; what = c })
+        → w ≡ aimed full (Heard.Command t f n) ws
     unfolding aimed
-    aims q = q ∙ ap (for_node full) order_is ∙ goes (for_node full (order_of full t f n ws)) (sym (its_refusal full t f _ e) ∙ z)
+    aims q = q ∙ ap (for_node full) order_is ∙ goes (for_node full (order_of full t f n ws)) e
 
-    pub command_gateway : j.what.node ≡ hub → Whom.Gateway order ≡ aimed full (Heard.Command t f n) ws
+    pub command_gateway : c.node ≡ hub
+        → Whom.Gateway (record { stamp = t; form = f; words = n; kind = k; what = c }) ≡ aimed full (Heard.Command t f n) ws
     unfolding for_node
-    command_gateway h = aims (sym (yes_cond _ (eq-eqb j.what.node hub h)))
+    command_gateway h = aims (sym (yes_cond _ (eq-eqb c.node hub h)))
 
-    pub command_reader : (j.what.node ≡ hub → ⊥) → Whom.Reader j.what.node (Ask.Command order) ≡ aimed full (Heard.Command t f n) ws
+    pub command_reader : (c.node ≡ hub → ⊥)
+        → Whom.Reader c.node (Ask.Command (record { stamp = t; form = f; words = n; kind = k; what = c }))
+        ≡ aimed full (Heard.Command t f n) ws
     unfolding for_node
-    command_reader d = aims (sym (no_cond _ (ne_eqb j.what.node hub d)))
+    command_reader d = aims (sym (no_cond _ (ne_eqb c.node hub d)))
 
 -- ---- a field check
 module _ (n : ℕ) (t : Stamp) (clock : ℕ) (ws : List ℕ) where

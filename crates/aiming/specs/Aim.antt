@@ -8,7 +8,6 @@ use Rattle.units.specs.declared.stamp.Stamp.{Stamp}
 use Rattle.meaning.specs.Refusal.{◌when◌, ◌or_else◌, refusal}
 use Rattle.meaning.specs.Bench.{Bench, hub, is_reader}
 use Rattle.meaning.specs.Call.{command, check, leave, collect, acknowledge, judged, command_in, kind_in}
-use Rattle.dialog.specs.Spoken.{output_lent}
 use Rattle.lines.specs.declared.Heard.{Heard}
 use Rattle.aiming.specs.declared.Aside.{Aside}
 use Rattle.aiming.specs.declared.Want.{Want}
@@ -43,7 +42,7 @@ module _ (b : Bench) where
   aimed (Heard.Check n t clock) ws = unless_refused (judged b (check n t clock)) (Whom.Reader n (Ask.Check t clock))
   aimed (Heard.Arrive n id bytes) ws = unless_refused (arrive_refusal b n id.0 bytes.0) (Whom.Reader n (Ask.Arrive id bytes))
   aimed (Heard.Leave n) ws = unless_refused (judged b (leave n)) (Whom.Reader n Ask.Leave)
-  aimed (Heard.Collect n f) ws = unless_refused (judged b (collect f n output_lent)) (Whom.List n (Want.Collect f))
+  aimed (Heard.Collect n f) ws = unless_refused (judged b (collect f n 135)) (Whom.List n (Want.Collect f))
   aimed (Heard.Acknowledge n h) ws = unless_refused (judged b (acknowledge n h)) (Whom.List n (Want.Acknowledge h))
 
 -- a packet's words stand in a buffer of so many

@@ -1,4 +1,6 @@
 // Whom a line is for, by what it says alone: a call is judged (3 to 11), and goes to its own list, its reader, or the gateway itself.
+#![tactic(auto)]
+
 ghost use Rattle.std.specs.Prelude.{◌≡◌, List, ℕ, ◌≤◌, length};
 ghost use Rattle.meaning.specs.Bench.{full, is_reader};
 ghost use Rattle.lines.specs.declared.Heard.{Heard};
@@ -13,7 +15,7 @@ use units::stamp::Stamp;
 use units::{Bytes, Form, Words};
 
 // No call, or one that is refused by what it says.
-#[derive(Drop)]
+#[derive(Clone, Copy)]
 pub enum Aside {
     Passed,
     Unreadable,
@@ -22,14 +24,14 @@ pub enum Aside {
 }
 
 // A call for a list.
-#[derive(Drop)]
+#[derive(Clone, Copy)]
 pub enum Want {
     Collect(Form),
     Acknowledge(u16),
 }
 
 // An accepted command packet: its words stand in a buffer.
-#[derive(Drop)]
+#[derive(Clone, Copy)]
 pub struct Order {
     pub stamp: Stamp,
     pub form: Form,
@@ -39,7 +41,7 @@ pub struct Order {
 }
 
 // A call for a reader: a packet's words, an ID and a plaque's bytes stand in buffers.
-#[derive(Drop)]
+#[derive(Clone, Copy)]
 pub enum Ask {
     Command(Order),
     Check { stamp: Stamp, clock: u32 },
@@ -47,7 +49,7 @@ pub enum Ask {
     Leave,
 }
 
-#[derive(Drop)]
+#[derive(Clone, Copy)]
 pub enum Whom {
     Nobody(Aside),
     List(u8, Want),

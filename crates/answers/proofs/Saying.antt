@@ -5,8 +5,8 @@ use Rattle.units.proofs.Common.{ltb-false, is_stamp, yes_cond, no_or, or_false}
 use Rattle.units.proofs.PackingLaws.{sets_fits}
 use Rattle.units.specs.declared.Form.TheVariants.{Register}
 use Rattle.units.specs.declared.stamp.Stamp.{Stamp}
-use Rattle.meaning.proofs.Terms.{full, is_node, overall, longest_packet, written_output, amount_wrong, error_wrong, response_body, bears, shown}
-use Rattle.meaning.proofs.Terms.{shown_count, response_words, response_output, well_formed}
+use Rattle.meaning.proofs.Terms.{full, is_node, overall, written_output, amount_wrong, error_wrong, response_body, bears, shown, shown_count}
+use Rattle.meaning.proofs.Terms.{response_words, response_output, well_formed}
 use Rattle.meaning.specs.Response.{respond_refusal}
 use Rattle.meaning.specs.declared.packet.Response.{Response}
 use Rattle.meaning.proofs.ResponseLaws.{count_responded, writes, read_responded}
@@ -52,7 +52,7 @@ module _ (r : Response) (bs : List ℕ) (room : ℕ) (a : Sayable full r (length
 
 -- a response without an error
 pub good_sayable : {r : Response} {echo count n : ℕ} {t : Stamp} → r ≡ good count n t echo → is_node full n ≡ true → is_stamp t ≡ true
-    → (bytes : ℕ) → bytes ≤ 255 → {room : ℕ} → longest_packet ≤ room → Sayable full r bytes room
+    → (bytes : ℕ) → bytes ≤ 255 → {room : ℕ} → overall 255 ≤ room → Sayable full r bytes room
 unfolding amount_wrong
 good_sayable e is valid bytes h l = record {
   stamp = ap (λ (r : Response). is_stamp r.stamp) e ∙ valid;

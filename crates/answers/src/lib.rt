@@ -1,4 +1,6 @@
 // An answer made: what its own node decides of a call, room aside, and a response written to a lent answer.
+#![tactic(auto)]
+
 pub mod slots;
 
 ghost use Rattle.std.specs.Prelude.{◌≡◌, length};
@@ -14,7 +16,7 @@ use units::stamp::Stamp;
 use units::{Bytes, Form, Words};
 
 // A call is refused with the paper's number; or an answer is due.
-#[derive(Drop)]
+#[derive(Clone, Copy)]
 pub enum Verdict {
     Refused(u8),
     Due,

@@ -29,10 +29,9 @@ use Rattle.handover.specs.Handed as H
 use Rattle.text.specs.Text.{Put, words_line}
 use Rattle.text.proofs.Writing.{length_words, put_as}
 use Rattle.listing.specs.Lines.{refused_line}
-use Rattle.meaning.specs.Packet.{longest_packet}
 use Rattle.listing.specs.Listing.{Turn, words_handed, handover_in, handed_over, heard, turn}
 use Rattle.listingout.proofs.Rooms.{refused_short}
-use Rattle.asking.specs.Ask.{longest_line, Waiting, HandsOver, Plays}
+use Rattle.asking.specs.Ask.{longest, longest_line, Waiting, HandsOver, Plays}
 use Rattle.asking.specs.declared.Handed.{Handed}
 use Rattle.asking.proofs.Queued.{queues, waits}
 
@@ -41,16 +40,15 @@ pub took : {b : Bench} {c : Call} {m m' : Machine} {said : Said} → unfit b m �
     → Stepped b c m said m'
 took {b} {c} {m} {m'} {said} u d = stepped b c m said m' u (by_step b m c u refl d)
 
--- ---- the answer that waits: w, at most as long as the longest_packet, with the handover number
+-- ---- the answer that waits: w, at most as long as the longest, with the handover number
 module _ (b : Bench) (n : ℕ) (m : Machine) where
   abbrev number : ℕ
   number = ((meaning b m).nodes n).handover
 
   pub record Hands (w : List ℕ) : Type 0 where
-    pub few : length w ≤ longest_packet
+    pub few : length w ≤ longest
     pub first : (ws : List (List ℕ)) × (((meaning b m).nodes n).pending ≡ w ∷ ws)
-    pub gives : (k : ℕ) → longest_packet ≤ k → step b (meaning b m) (collect Register n k)
-        ≡ saying (answered (handed w number)) (meaning b m)
+    pub gives : (k : ℕ) → longest ≤ k → step b (meaning b m) (collect Register n k) ≡ saying (answered (handed w number)) (meaning b m)
 
   pub hands : Waiting b n m → (w : List ℕ) × Hands w
   unfolding bears
@@ -60,7 +58,7 @@ module _ (b : Bench) (n : ℕ) (m : Machine) where
       let some : 0 < x.answers = omega (arith, h.some, pending_long b m h.sound n i h.node refl x refl) in
       let w : List ℕ = oldest b m h.sound n i h.node refl x refl some in
       let first = oldest_first b m h.sound n i h.node refl x refl some in
-      let few : length w ≤ longest_packet = (takes b m h.sound n i h.node refl x refl some).most in
+      let few : length w ≤ longest = (takes b m h.sound n i h.node refl x refl some).most in
       let bare = shown_bare Register n w refl in (
         w,
         record {
@@ -82,7 +80,7 @@ module _ (b : Bench) (n : ℕ) (m : Machine) where
         line = words_line (words_handed o.said);
         after = (step b o.next (acknowledge n (handover_in o.said))).next;
       } in
-      ap over (h.gives longest_packet (omega arith))
+      ap over (h.gives longest (omega arith))
 
 -- ---- a command's turn: the line that code wrote, and the machine that it left
 module _ (b : Bench) (m m' : Machine) (t : Stamp) (ws : List ℕ) (fits : unfit b m ≡ 0) (reply : Reply)

@@ -6,6 +6,7 @@ use Rattle.units.specs.declared.Words.{Words}
 use Rattle.units.specs.declared.Form.TheVariants.{Register}
 use Rattle.units.specs.declared.stamp.Stamp.{Stamp}
 use Rattle.meaning.specs.Bench.{Bench, is_node}
+use Rattle.meaning.specs.Packet.{overall}
 use Rattle.meaning.specs.Gateway.{Gateway, set_node, taken}
 use Rattle.meaning.specs.Call.{command, judged, command_in, kind_in}
 use Rattle.meaning.specs.declared.table.Kind.{Kind}
@@ -20,15 +21,17 @@ use Rattle.store.specs.Changes.{with_lists}
 use Rattle.settle.specs.Settled.{Seat, seated, House, housed}
 use Rattle.handover.specs.Handed.{Slot}
 use Rattle.text.specs.Text.{Put, words_line}
-use Rattle.meaning.specs.Packet.{longest_packet}
 use Rattle.listing.specs.Listing.{Turn, turn}
 use Rattle.asking.specs.declared.Handed.{Handed}
 use Rattle.asking.specs.declared.ReaderTurn.{ReaderTurn}
 use Rattle.asking.specs.declared.HubTurn.{HubTurn}
 
--- the bytes of the longest answer's line
+-- the words of the longest answer, which has 255 bytes of data, and the bytes of its line
+abbrev pub longest : ℕ
+longest = overall 255
+
 abbrev pub longest_line : ℕ
-longest_line = 5 * longest_packet
+longest_line = 5 * longest
 
 -- no answer is pending anywhere
 abbrev pub NonePending : Gateway → Type 0
@@ -46,7 +49,7 @@ pub record Hands (b : Bench) (n i : ℕ) (s : State) (store store' memory old : 
   pub oldest : List ℕ
   pub others : List (List ℕ)
   pub pending : ((meaning b (machine s store memory)).nodes n).pending ≡ oldest ∷ others
-  pub few : length oldest ≤ longest_packet
+  pub few : length oldest ≤ longest
   pub line : Put old to (words_line oldest) new r.at
   pub fit : unfit b (machine (with_lists s (set s.nodes i r.node) r.held) store' memory) ≡ 0
   pub means : meaning b (machine (with_lists s (set s.nodes i r.node) r.held) store' memory)

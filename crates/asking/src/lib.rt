@@ -1,5 +1,7 @@
 // A command of the night, at its own node: obeyed, its answer's line written straight from the store, and the answer taken away. The state
 // stays where it lies: its owner takes the parts out and puts them back.
+#![tactic(auto)]
+
 ghost use Rattle.std.specs.Prelude.{◌≡◌, ◌+◌, ◌≤◌, length};
 ghost use Rattle.meaning.specs.Bench.{full, hub};
 ghost use Rattle.settle.specs.Settled.{Seatable, Houseable};
@@ -23,7 +25,7 @@ use units::{Form, NODES, READERS, Words};
 use wordsout::put_words;
 
 // A node and the words that all nodes hold, without its oldest answer; and the place in the output after that answer's line.
-#[derive(Drop)]
+#[derive(Clone, Copy)]
 pub struct Handed {
     pub node: Node,
     pub held: [Words; NODES],
@@ -54,7 +56,7 @@ fn hand_over(
 }
 
 // The parts of a reader after a command, and the place in the output after its line.
-#[derive(Drop)]
+#[derive(Clone, Copy)]
 pub struct ReaderTurn {
     pub seat: Seated,
     pub at: usize,
@@ -112,7 +114,7 @@ pub fn reader_turn(
 }
 
 // The parts of the gateway after a command for its own node, and the place in the output after its line.
-#[derive(Drop)]
+#[derive(Clone, Copy)]
 pub struct HubTurn {
     pub house: Housed,
     pub at: usize,

@@ -4,7 +4,6 @@ use Rattle.units.proofs.Common.{◌∙◌, ◌≡◌, refl, ap, fun_ext, true, f
 use Rattle.units.proofs.Common.{leb, length, drop, take, replicate, length-replicate, slice, le-leb}
 use borrow.Author.Tests.{leb-false}
 use Rattle.units.proofs.Choice.{and-false}
-use Rattle.meaning.specs.Bench.{memory_size}
 use Rattle.meaning.proofs.Terms.{full, is_reader, fresh}
 use Rattle.state.specs.State.{fresh_state}
 use Rattle.machine.proofs.Terms.{machine, meaning, region_of, unfit}
@@ -36,41 +35,37 @@ module _ {A : Type 0} (x : A) where
 zeros : ℕ → List ℕ
 zeros n = replicate n 0
 
-blank_region : (n : ℕ) → region_of full (replicate (memory_size full) 0) n ≡ cond (is_reader full n) (replicate full.region 0) []
+blank_region : (n : ℕ) → region_of full (replicate 16384 0) n ≡ cond (is_reader full n) (replicate 1024 0) []
 unfolding region_of zeros
-blank_region n = if-reader (is_reader full n) refl
+blank_region n = go (is_reader full n) refl
   where
-    beyond : (n : ℕ) → is_reader full n ≡ false → min (n * full.region) (memory_size full) - (n - 1) * full.region ≡ 0
+    beyond : (n : ℕ) → is_reader full n ≡ false → min (n * 1024) 16384 - (n - 1) * 1024 ≡ 0
     beyond zero e = refl
     beyond (suc n) e =
-        let h = leb-false (suc n) full.readers
-        (and-false (leb 1 (suc n)) (leb (suc n) full.readers) e (le-leb 1 (suc n) (omega arith))) in
-        omega (arith, h)
+        let h = leb-false (suc n) 16 (and-false (leb 1 (suc n)) (leb (suc n) 16) e (le-leb 1 (suc n) (omega arith))) in omega (arith, h)
 
-    if-reader : (t : Bool) → is_reader full n ≡ t
-        → slice ((n - 1) * full.region) (n * full.region) (zeros (memory_size full)) ≡ cond t (zeros full.region) []
-    if-reader true e =
-        slice_row 0 ((n - 1) * full.region) (n * full.region) (memory_size full) full.region (omega (arith, reader_range full n e))
-    if-reader false e = slice_row 0 ((n - 1) * full.region) (n * full.region) (memory_size full) 0 (beyond n e)
+    go : (t : Bool) → is_reader full n ≡ t → slice ((n - 1) * 1024) (n * 1024) (zeros 16384) ≡ cond t (zeros 1024) []
+    go true e = slice_row 0 ((n - 1) * 1024) (n * 1024) 16384 1024 (omega (arith, reader_range full n e))
+    go false e = slice_row 0 ((n - 1) * 1024) (n * 1024) 16384 0 (beyond n e)
 
--- the store that the making of a fresh state leaves, where one of the right length was lent
-zeroed : (old store : List ℕ) → length old ≡ full.store → store ≡ replicate (length old) 0 → store ≡ zero_store
+-- the store that the making of a fresh state leaves, where one of 4,096 words was lent
+zeroed : (old store : List ℕ) → length old ≡ 4096 → store ≡ replicate (length old) 0 → store ≡ zero_store
 unfolding zero_store zeros
 zeroed old store l z = z ∙ ap zeros l
 
 -- from what making it promises
-module _ (s : State) (old store : List ℕ) (l : length old ≡ full.store) (p : (s ≡ fresh_state) × (store ≡ replicate (length old) 0)) where
-  as_fresh : machine s store (replicate (memory_size full) 0) ≡ fresh_machine (replicate (memory_size full) 0)
+module _ (s : State) (old store : List ℕ) (l : length old ≡ 4096) (p : (s ≡ fresh_state) × (store ≡ replicate (length old) 0)) where
+  as_fresh : machine s store (replicate 16384 0) ≡ fresh_machine (replicate 16384 0)
   as_fresh =
-      ap (λ (s : State). machine s store (replicate (memory_size full) 0)) p.0
-      ∙ ap (λ (w : List ℕ). machine fresh_state w (replicate (memory_size full) 0)) (zeroed old store l p.1)
+      ap (λ (s : State). machine s store (replicate 16384 0)) p.0
+      ∙ ap (λ (w : List ℕ). machine fresh_state w (replicate 16384 0)) (zeroed old store l p.1)
 
-  pub blank_fit : unfit full (machine s store (replicate (memory_size full) 0)) ≡ 0
-  blank_fit = ap (unfit full) as_fresh ∙ fresh_fit (replicate (memory_size full) 0) (length-replicate {A = ℕ} (memory_size full) 0)
+  pub blank_fit : unfit full (machine s store (replicate 16384 0)) ≡ 0
+  blank_fit = ap (unfit full) as_fresh ∙ fresh_fit (replicate 16384 0) (length-replicate {A = ℕ} 16384 0)
 
-  pub blank_means : meaning full (machine s store (replicate (memory_size full) 0)) ≡ blank full
+  pub blank_means : meaning full (machine s store (replicate 16384 0)) ≡ blank full
   unfolding blank
   blank_means =
       ap (meaning full) as_fresh
-      ∙ fresh_means full (replicate (memory_size full) 0)
+      ∙ fresh_means full (replicate 16384 0)
       ∙ ap fresh (fun_ext blank_region)

@@ -1,9 +1,12 @@
 // The reader of command packets: each doubt of the paper in its order, and what an accepted packet says.
+#![tactic(auto)]
+
 ghost use Rattle.std.specs.Prelude.{◌≡◌, not, eqb};
 ghost use Rattle.units.specs.Word.{lsb, msb};
 ghost use Rattle.meaning.specs.Packet.{word_no};
 ghost use Rattle.meaning.specs.Refusal.{refusal, ◌or_else◌};
 ghost use Rattle.meaning.specs.Bench.{full};
+ghost use Rattle.meaning.specs.Table.{row_of};
 ghost use Rattle.meaning.specs.declared.table.Kind.TheVariants.{Continuous};
 ghost use Rattle.meaning.specs.Command.{body_of, command_of, head_wrong, head_node_wrong, frame_doubts, who_doubts, outside, delay_wrong};
 ghost use Rattle.meaning.specs.Command.{range_wrong, limit_doubts, stray, unused_doubts, row_doubts, read_command, command_data};
@@ -246,8 +249,9 @@ fn packet_refusal(words: &[u16], form: Form, body: &[u16], row: Row, m: Command)
     row_refusal(row, m, body)
 }
 
-// A command packet with its stamp: the refusal (3 to 11), 0 where it is accepted; what it says, and what its row in the table says it does.
-#[derive(Drop)]
+// A command packet with its stamp: the refusal (3 to 11), 0 where it is accepted; what it says, and what its row in the table says that it
+// does.
+#[derive(Clone, Copy)]
 pub struct Judged {
     pub refusal: u8,
     pub kind: Kind,

@@ -1,5 +1,7 @@
 // The writer of command packets.
-ghost use Rattle.std.specs.Prelude.{◌≡◌, ◌≤◌, length};
+#![tactic(auto)]
+
+ghost use Rattle.std.specs.Prelude.{◌≡◌, ◌++◌, ◌≤◌, length};
 ghost use Rattle.std.proofs.lemmas.List.Edits.{sets};
 ghost use Rattle.meaning.specs.Refusal.{refusal};
 ghost use Rattle.meaning.specs.Bench.{full};
@@ -26,8 +28,8 @@ fn headed_count(form: Form, amount: Bytes) -> Words
     }
 }
 
-// 7 to 11 and 16; 0 where the packet is written. The amount and the room are lengths of lent memory: once 9 is ruled out the amount is what
-// the row says.
+// 7 to 11 and 16; 0 where the packet is written. The amount and the room are lengths of lent memory: once 9 is ruled out the amount is
+// what the row says.
 fn row_refusal(row: Row, form: Form, m: Command, amount: usize, room: usize) -> u8
     ensures { result ≡ refusal (writer_doubts full row form m amount room) }
 {

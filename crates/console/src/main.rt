@@ -1,5 +1,7 @@
 // The bench console: a call a line on standard input, an answer a line on standard output, until the input ends. Where input or output
 // fails, that is said on standard error, and the console ends.
+#![tactic(auto)]
+
 ghost use Rattle.std.specs.Prelude.{◌≡◌, ◌+◌, ◌*◌, ◌≤◌, length};
 ghost use Rattle.meaning.specs.Bench.{full};
 ghost use Rattle.machine.specs.Machine.{machine};
@@ -10,9 +12,9 @@ use conversation::speak;
 use dialogout::LONGEST_ANSWER;
 use libc::{STDERR_FILENO, STDIN_FILENO};
 use lines::LONGEST_LINE;
+use plaques::copy_bytes;
 use state::State;
 use streams::{put, take};
-use text::put_text;
 use units::{Bytes, Words};
 
 // A line that goes on is kept up to a byte more than the longest that is looked into, which shows that it is longer.
@@ -22,7 +24,7 @@ const KEPT: usize = LONGEST_LINE + 1;
 const PIECE: usize = 2048;
 
 // The state after some lines, and whether their answers could be written.
-#[derive(Drop)]
+#[derive(Clone, Copy)]
 struct Answered {
     state: State,
     written: bool,
@@ -77,7 +79,7 @@ fn keep(input: &mut [u8], from: usize, end: usize) -> usize
 }
 
 // The state after a piece of the input, how many bytes of a line that goes on are kept, and whether all answers could be written.
-#[derive(Drop)]
+#[derive(Clone, Copy)]
 struct Heard {
     state: State,
     kept: usize,
@@ -98,7 +100,8 @@ fn hear(
     requires piece_in_bounds { (kept + length piece.now ≤ length input.old) × (length input.old * longest_answer ≤ length out.old) }
     ensures { (result.kept ≤ 4401) × (unfit full (machine result.state store.new plaques.new) ≡ 0) }
 {
-    let n = put_text(input, kept, piece);
+    copy_bytes(piece, input, kept);
+    let n = kept + piece.len();
     let whole = whole_lines(&input[..n]);
     let a = answer(s, &input[..whole], store, plaques, out);
     let left = keep(input, whole, n);

@@ -1,13 +1,11 @@
 -- A conversation, line after line: what is written so far, and the replies to come.
 -- Assumes nothing.
-use Rattle.units.proofs.Common.{sym, ◌∙◌, ◌≡◌, refl, ap, List, [], ◌++◌, ℕ, ◌≤◌, ◌-◌, ◌+◌, ◌<◌, suc, ◌*◌, zero-add, arith, length, drop}
-use Rattle.units.proofs.Common.{take, length-append, sets}
+use Rattle.units.proofs.Common.{sym, ◌∙◌, ◌≡◌, refl, ap, true≢false, List, [], ◌++◌, ℕ, ◌≤◌, ◌-◌, ◌+◌, ◌<◌, suc, ◌*◌, zero-add, arith}
+use Rattle.units.proofs.Common.{length, drop, take, length-append, sets, le-leb, lt-leb, yes_cond, no_cond}
 use Rattle.meaning.proofs.Terms.{full, Gateway}
 use Rattle.machine.proofs.Terms.{Machine, meaning, unfit}
 use Rattle.promise.proofs.Parts.{Parts, parts}
-use Rattle.text.specs.Text.{PutWhole}
-use Rattle.text.specs.declared.Output.{Output}
-use Rattle.text.proofs.Writing.{put_turn, put_done, put_length, put_as, put_whole}
+use Rattle.text.proofs.Writing.{put_turn, put_done, put_length}
 use Rattle.listing.specs.Listing.{blank}
 use Rattle.dialog.specs.Spoken.{spoken}
 use Rattle.dialog.specs.Dialog.{longest_answer, lines_of, reply_to, replies, conversation}
@@ -15,7 +13,8 @@ use Rattle.gather.specs.Pieces.{line_in}
 use Rattle.gather.proofs.Pieces.{lines_on, lines_end, line_part}
 use Rattle.talk.specs.Talk.{Plays}
 use Rattle.talk.proofs.Talking.{plays_after}
-use Rattle.conversation.specs.Conversation.{after_lines, Speaks}
+use Rattle.conversation.specs.Conversation.{after_lines, Speaks, Converses}
+use Rattle.conversation.specs.declared.Text.{Text}
 
 -- the replies to the lines from a place on, and the gateway after them
 unfoldable pub to_come : List ℕ → ℕ → Gateway → List ℕ
@@ -99,8 +98,25 @@ module _ {input out₀ out : List ℕ} {m₀ : Machine} {at to : ℕ} {m : Machi
       }
 
 -- ---- a whole conversation
-pub conversed : {input old new : List ℕ} {at : ℕ} {m m' : Machine} → meaning full m ≡ blank full
-    → length (lines_of input) * longest_answer ≤ length old
-    → Speaks full m input old new at m' → PutWhole (length (lines_of input) * longest_answer) (conversation input) old new (Output.Written at)
+pub conversed : {input old new : List ℕ} {at : ℕ} {m m' : Machine} → meaning full m ≡ blank full → length (lines_of input) * longest_answer ≤
+    length old
+    → Speaks full m input old new at m' → Converses input old new (Text.Written at)
 unfolding conversation
-conversed {input} from h s = put_whole h (put_as (ap (λ (g : Gateway). replies full g (lines_of input)) from) s.wrote) s.fits
+conversed {input} {old} {new} {at} {m} from h s =
+    let e : replies full (meaning full m) (lines_of input) ≡ conversation input = ap (λ (g : Gateway). replies full g (lines_of input))
+    from in
+    let l = le-leb (length (lines_of input) * longest_answer) (length old) h in
+    record {
+      says = ap Text.Written (s.wrote.next ∙ zero-add _ ∙ ap length e) ∙ sym (yes_cond Text.TooShort l);
+      writes = s.wrote.wrote ∙ ap (sets old 0) e ∙ sym (yes_cond old l);
+      fits = λ q. omega (arith, s.wrote.next, s.fits, ap length e);
+    }
+
+pub unconversed : {input old : List ℕ} → length old < length (lines_of input) * longest_answer → Converses input old old Text.TooShort
+unconversed {input} {old} h =
+    let l = lt-leb (length (lines_of input) * longest_answer) (length old) h in
+    record {
+      says = sym (no_cond (Text.Written (length (conversation input))) l);
+      writes = sym (no_cond (sets old 0 (conversation input)) l);
+      fits = λ q. absurd (true≢false (sym q ∙ l));
+    }

@@ -1,11 +1,12 @@
 // The console's lines played: those of an input on a machine that is known to be consistent, and a whole conversation with a fresh gateway.
+#![tactic(auto)]
+
 ghost use Rattle.std.specs.Prelude.{◌≡◌, ◌*◌, ◌≤◌, length};
 ghost use Rattle.meaning.specs.Bench.{full};
 ghost use Rattle.machine.specs.Machine.{machine};
 ghost use Rattle.machine.specs.Consistent.{unfit};
-ghost use Rattle.text.specs.Text.{PutWhole};
-ghost use Rattle.dialog.specs.Dialog.{lines_of, conversation, longest_answer};
-ghost use Rattle.conversation.specs.Conversation.{Speaks};
+ghost use Rattle.dialog.specs.Dialog.{lines_of, longest_answer};
+ghost use Rattle.conversation.specs.Conversation.{Speaks, Converses};
 
 use aiming::{Whom, aim};
 use answers::slots::node_slot;
@@ -14,11 +15,10 @@ use gather::{count_lines, line_end};
 use lines::{LONGEST_ID, LONGEST_PLAQUE, MOST_WORDS, read_line};
 use state::State;
 use talk::{at_hub, at_list, at_reader, put_aside};
-use text::Output;
 use units::{Bytes, Words};
 
 // The state after the lines, and the place in the output after their answers.
-#[derive(Drop)]
+#[derive(Clone, Copy)]
 pub struct Spoken {
     pub state: State,
     pub at: usize,
@@ -51,7 +51,7 @@ pub fn speak(
         from = end + 1;
         let words = &packet[..];
         let held = s.held;
-        // Each way ends its own turn, which takes the join of the four out of the proof.
+        // Each way around ends its own turn.
         match aim(heard, words) {
             Whom::Nobody(aside) => {
                 to = put_aside(out, to, aside, store);
@@ -104,17 +104,23 @@ pub fn speak(
     Spoken { state: s, at: to }
 }
 
+// What is written: its length, or that the output could be too short for it.
+#[derive(Clone, Copy)]
+pub enum Text {
+    Written(usize),
+    TooShort,
+}
+
 // The whole conversation with a fresh gateway, at the front of the output; what is past it stays.
-pub fn converse(input: &[u8], out: &mut [u8]) -> Output
-    ensures { PutWhole (length (lines_of input.now) * longest_answer) (conversation input.now)
-        out.old out.new result }
+pub fn converse(input: &[u8], out: &mut [u8]) -> Text
+    ensures { Converses input.now out.old out.new result }
 {
     if out.len() / LONGEST_ANSWER < count_lines(input) {
-        return Output::TooShort;
+        return Text::TooShort;
     }
     let mut store = [0u16; Words::STORE.0 as usize];
     let mut plaques = [0u8; Bytes::PLAQUES.0 as usize];
     let s = state::fresh(&mut store);
     let r = speak(s, input, &mut store, &mut plaques, out);
-    Output::Written(r.at)
+    Text::Written(r.at)
 }

@@ -1,7 +1,6 @@
--- Request E8: "a converter each way keeps the meaning". The layout of before is that of `placed`, the one without gaps that of `machine`.
+-- Request E8: "a converter each way keeps the meaning". The layout of before is that of `placed`, the one without gaps that of `state`.
 -- Assumes nothing.
 use Rattle.std.specs.Prelude.{ℕ, ◌+◌, ◌-◌, ◌≤◌, ◌<◌, cond, List, [], ◌∷◌, ◌++◌, map, eqb, length, take, drop, get_or, replicate}
-use Rattle.units.specs.Count.{InWord}
 use Rattle.units.specs.declared.Words.{Words}
 use Rattle.machine.specs.Machine as N
 use Rattle.state.specs.declared.node.Node.{Node}
@@ -32,8 +31,8 @@ new_store store ns = runs_of store ns ++ replicate (length store - length (runs_
 abbrev pub new_machine : P.Machine → N.Machine
 new_machine m = N.machine (new_state m.state) (new_store m.store m.state.nodes) m.memory
 
--- ---- to the layout with places: each list gets the place that the other layout gives, 0 where it is empty; the store stays. The nodes and
--- the words that they hold are given from a place of the store on
+-- ---- to the layout with places: each list gets the place that the other layout gives, 0 where it is empty; the store stays. The nodes
+-- and the words that they hold are given from a place of the store on
 unfoldable pub old_nodes : ℕ → List Node → List Words → List O.Node
 old_nodes to [] hs = []
 old_nodes to (n ∷ ns) [] = []
@@ -56,4 +55,4 @@ abbrev pub EachInside : ℕ → List O.Node → Type 0
 EachInside most ns = (k : ℕ) → k < length ns → (get_or ns k fresh_node).list.place + (get_or ns k fresh_node).list.words.0 ≤ most
 
 abbrev pub Few : List O.Node → Type 0
-Few ns = (k : ℕ) → k < length ns → InWord (get_or ns k fresh_node).list.count
+Few ns = (k : ℕ) → k < length ns → (get_or ns k fresh_node).list.count ≤ 65535

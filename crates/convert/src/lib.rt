@@ -1,4 +1,6 @@
 // Converters between the layout with places, which was before request E8, and the one without gaps. They are no calls of a run.
+#![tactic(auto)]
+
 ghost use Rattle.std.specs.Prelude.{◌≡◌, map, ◌≤◌, length, replicate};
 ghost use Rattle.meaning.specs.Bench.{full, node_count};
 ghost use Rattle.state.specs.State.{fresh_node};
@@ -21,13 +23,13 @@ use units::{NODES, Words};
 
 // What a converter hands back: the number of the refusal, or 0, and the state in the other layout. With a number its lists are as a fresh
 // state has them.
-#[derive(Drop)]
+#[derive(Clone, Copy)]
 pub struct Packed {
     pub state: State,
     pub refusal: u8,
 }
 
-#[derive(Drop)]
+#[derive(Clone, Copy)]
 pub struct Placed {
     pub state: PlacedState,
     pub refusal: u8,

@@ -6,13 +6,13 @@ use Rattle.units.specs.Stamp.{is_stamp}
 use Rattle.units.specs.Packing.{bytes_of}
 use Rattle.units.specs.declared.stamp.Stamp.{Stamp}
 use Rattle.meaning.specs.Bench.{Bench, is_reader}
-use Rattle.meaning.specs.Packet.{longest_packet}
+use Rattle.meaning.specs.Packet.{overall}
 use Rattle.meaning.specs.Gateway as M
 use Rattle.meaning.specs.Call.{Local, repeats, obeyed, looked}
 use Rattle.meaning.specs.declared.table.Kind.{Kind}
 use Rattle.meaning.specs.declared.packet.Command.{Command}
-use Rattle.state.specs.State.{report_of}
 use Rattle.machine.specs.Machine.{field_of, mode_of, reader_of}
+use Rattle.state.specs.Reports.{report_of}
 use Rattle.machine.specs.Consistent.{reader_ok}
 use Rattle.state.specs.declared.reader.Reader.{Reader}
 use Rattle.answers.specs.Ordered.{load_of, Ready}
@@ -40,7 +40,7 @@ pub record Readable (b : Bench) (n : ℕ) (t : Stamp) (x : Reader) (region answe
   pub stamp : is_stamp t ≡ true
   pub in_order : reader_ok b x ≡ true
   pub whole : region ≡ b.region
-  pub long : longest_packet ≤ answer
+  pub long : overall 255 ≤ answer
 
 -- .. and at an accepted command
 pub record Servable (b : Bench) (t : Stamp) (k : Kind) (m : Command) (words : List ℕ) (x : Reader) (region answer : ℕ) : Type 0 where

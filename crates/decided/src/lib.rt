@@ -1,5 +1,7 @@
 // What was decided of a reader's call: the reader after it, what becomes of its region, the answer that is due. The change is made where
 // the call is settled.
+#![tactic(auto)]
+
 ghost use Rattle.std.specs.Prelude.{◌≡◌, ◌+◌, ◌≤◌, ltb, length, replicate};
 ghost use Rattle.std.proofs.Math.Seq.{paste};
 ghost use Rattle.decided.specs.Decided.{altered, Suits};
@@ -10,7 +12,7 @@ use state::reader::{Plaque, Reader};
 use units::Words;
 
 // What becomes of the reader's region.
-#[derive(Drop)]
+#[derive(Clone, Copy)]
 pub enum Change {
     Kept,
     Filled { start: usize, size: usize, byte: u8 },
@@ -18,7 +20,7 @@ pub enum Change {
 }
 
 // The reader as it is after the call, what becomes of its region, and the words of the answer that is due.
-#[derive(Drop)]
+#[derive(Clone, Copy)]
 pub struct Decided {
     pub after: Reader,
     pub change: Change,

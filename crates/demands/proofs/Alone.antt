@@ -205,8 +205,8 @@ module _ (b : Bench) (ok : Sound b) (i : ℕ) where
     alone : Alone b i cs (fresh memory) (fresh memory)
     alone = let o = bounds-fresh b ok memory in alone_from cs (fresh memory) (fresh memory) (same_refl i (fresh memory)) o o z
 
-    -- From a fresh state, over any calls, if every answer due from reader i or from the gateway's own node is within its node's share, then
-    -- the run's log without the lines of the calls for other readers is the log of the run without those calls:
+    -- From a fresh state, over any calls, if every answer due from reader i or from the gateway's own node is within its node's share,
+    -- then the run's log without the lines of the calls for other readers is the log of the run without those calls:
     -- line for line the same results, the same pending answers and counts of reader i, the same plaque, mode and memory, and the same name
     pub strike_out : kept (of_ours b i) (log b i (fresh memory) cs) ≡ log b i (fresh memory) (struck b i cs)
     strike_out = alone.0

@@ -1,5 +1,5 @@
--- Every row of the closed cases of the demands holds; the checker computes them. The proviso of the third is a statement, and so its cases
--- are theorems; so are those of what the theorems ask of a bench.
+-- Every row of the closed cases of the demands holds; the checker computes them. The proviso of the third is a statement, and so its
+-- cases are theorems; so are those of what the theorems ask of a bench.
 -- Assumes nothing.
 use Rattle.units.proofs.Common.{sym, ◌≡◌, refl, true, true≢false, [], ℕ, lit≤, lit<}
 use lib.Dec.{le→leb, lt→ltb}

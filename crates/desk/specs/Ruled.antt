@@ -4,7 +4,7 @@ use Rattle.std.specs.Prelude.{ℕ, ◌≤◌, ◌≡◌, true, List, length, tak
 use Rattle.units.specs.Stamp.{is_stamp}
 use Rattle.units.specs.declared.stamp.Stamp.{Stamp}
 use Rattle.meaning.specs.Bench.{Bench, hub}
-use Rattle.meaning.specs.Packet.{longest_packet}
+use Rattle.meaning.specs.Packet.{overall}
 use Rattle.meaning.specs.Call.{Local, Desk, governed}
 use Rattle.meaning.specs.declared.table.OfGateway.{OfGateway}
 use Rattle.meaning.specs.declared.table.OfGateway.TheVariants.{GetName, SetName, Initialise, ResetGateway, Clear}
@@ -42,7 +42,7 @@ pub record Governable (b : Bench) (t : Stamp) (k : Kind) (m : Command) (words : 
   pub told : LimitedOf b k m words
   pub in_order : name_ok name ≡ true
   pub wide : length name.bytes ≡ 64
-  pub long : longest_packet ≤ answer
+  pub long : overall 255 ≤ answer
 
 -- ---- the decision d is the local outcome l of the definition
 abbrev pub desk_of : Ruled → Desk

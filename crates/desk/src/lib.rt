@@ -1,6 +1,8 @@
-// What the gateway makes of an accepted command of its own, decided on its name alone. Nothing is changed here but the lent answer; room is
-// judged, and the change made, where the call is settled.
-ghost use Rattle.std.specs.Prelude.{◌≡◌, length, replicate};
+// What the gateway makes of an accepted command of its own, decided on its name alone. Nothing is changed here but the lent answer; room
+// is judged, and the change made, where the call is settled.
+#![tactic(auto)]
+
+ghost use Rattle.std.specs.Prelude.{◌≡◌, [], length, replicate};
 ghost use Rattle.meaning.specs.Bench.{full};
 ghost use Rattle.meaning.specs.declared.table.Kind.TheVariants as K;
 ghost use Rattle.desk.specs.Ruled.{Governable, Governs};
@@ -15,7 +17,7 @@ use units::stamp::Stamp;
 use units::{Bytes, HUB, Words};
 
 // The name as it is after the call, what becomes of all lists, and the words of the answer that is due.
-#[derive(Drop)]
+#[derive(Clone, Copy)]
 pub struct Ruled {
     pub name: Name,
     pub broom: Broom,

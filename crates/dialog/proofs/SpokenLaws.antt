@@ -4,12 +4,12 @@ use Rattle.units.proofs.Common.{sym, ◌∙◌, ◌≡◌, refl, ap, true, false
 use Rattle.units.proofs.Common.{◌<◌, arith, eqb, leb, ltb, length, drop, get_or, length-map, List·getD-eq-default, get_or-drop, eq-eqb, ne_eqb}
 use Rattle.units.proofs.Common.{le-leb, eqb-true, leb-true, le-ltb, lt-ltb, every, yes_cond, no_cond, yes_or, no_or, and_true}
 use native.Mathlib.Decide.{dec_lt}
-use Rattle.meaning.proofs.Terms.{full, same, Call, command, check, arrive, leave, collect, acknowledge}
+use Rattle.meaning.proofs.Terms.{same, Call, command, check, arrive, leave, collect, acknowledge}
 use Rattle.dialog.specs.Fields.{fields, number_ok, word_ok, word_of, bytes_ok}
 use Rattle.dialog.specs.Spoken.{Spoken, passed, unreadable, call, look, call_by, spoken, saying, is_form, numbers_ok, a_node}
 use Rattle.dialog.specs.Spoken.{a_node_and_number, a_first_and_a_count, a_stamp, a_node_a_stamp_and_a_clock, field, number}
 use Rattle.dialog.specs.Spoken.{command_ok, check_ok, arrive_ok, leave_ok, collect_ok, acknowledge_ok, store_ok}
-use Rattle.dialog.specs.Spoken.{store_said, a_first, a_count, most_shown, most_words, longest_id, longest_plaque, output_lent}
+use Rattle.dialog.specs.Spoken.{store_said}
 use Rattle.text.specs.Text.{ascii}
 use Rattle.dialog.proofs.HexLaws.{bytes_few}
 use Rattle.dialog.proofs.FieldLaws.{both, number_is, of_number}
@@ -67,7 +67,7 @@ module _ (fs : List (List ℕ)) where
   pub record IsCommand : Type 0 where
     pub stamp : numbers_ok a_stamp fs ≡ true
     pub form : is_form (field fs 5) ≡ true
-    pub few : length (drop 6 fs) ≤ most_words
+    pub few : length (drop 6 fs) ≤ 256
     pub words : every word_ok (drop 6 fs) ≡ true
 
   pub record IsCheck : Type 0 where
@@ -79,8 +79,8 @@ module _ (fs : List (List ℕ)) where
   pub record IsArrive : Type 0 where
     pub node : numbers_ok a_node fs ≡ true
     pub three : length fs ≡ 3
-    pub id : bytes_ok longest_id (field fs 1) ≡ true
-    pub bytes : bytes_ok longest_plaque (field fs 2) ≡ true
+    pub id : bytes_ok 16 (field fs 1) ≡ true
+    pub bytes : bytes_ok 2047 (field fs 2) ≡ true
 
   pub record IsLeave : Type 0 where
     pub node : numbers_ok a_node fs ≡ true
@@ -97,23 +97,23 @@ module _ (fs : List (List ℕ)) where
     pub two : length fs ≡ 2
 
   pub record IsStore : Type 0 where
-    pub first : numbers_ok a_first fs ≡ true
-    pub count : numbers_ok a_count (drop 1 fs) ≡ true
+    pub first : numbers_ok (4095 ∷ []) fs ≡ true
+    pub count : numbers_ok (128 ∷ []) (drop 1 fs) ≡ true
     pub two : length fs ≡ 2
     pub some : 1 ≤ number fs 1
-    pub inside : number fs 0 + number fs 1 ≤ full.store
+    pub inside : number fs 0 + number fs 1 ≤ 4096
 
   pub is_command : IsCommand → command_ok fs ≡ true
   unfolding command_ok
-  is_command c = both (both (both c.stamp c.form) (le-leb (length (drop 6 fs)) most_words c.few)) c.words
+  is_command c = both (both (both c.stamp c.form) (le-leb (length (drop 6 fs)) 256 c.few)) c.words
 
   pub of_command : command_ok fs ≡ true → IsCommand
   unfolding command_ok
   of_command e =
-      let p = and_true ((numbers_ok a_stamp fs && is_form (field fs 5)) && leb (length (drop 6 fs)) most_words) (every word_ok (drop 6 fs)) e in
-      let q = and_true (numbers_ok a_stamp fs && is_form (field fs 5)) (leb (length (drop 6 fs)) most_words) p.0 in
+      let p = and_true ((numbers_ok a_stamp fs && is_form (field fs 5)) && leb (length (drop 6 fs)) 256) (every word_ok (drop 6 fs)) e in
+      let q = and_true (numbers_ok a_stamp fs && is_form (field fs 5)) (leb (length (drop 6 fs)) 256) p.0 in
       let r = and_true (numbers_ok a_stamp fs) (is_form (field fs 5)) q.0 in
-      record { stamp = r.0; form = r.1; few = leb-true (length (drop 6 fs)) most_words q.1; words = p.1 }
+      record { stamp = r.0; form = r.1; few = leb-true (length (drop 6 fs)) 256 q.1; words = p.1 }
 
   pub is_check : IsCheck → check_ok fs ≡ true
   unfolding check_ok
@@ -142,9 +142,8 @@ module _ (fs : List (List ℕ)) where
   pub of_arrive : arrive_ok fs ≡ true → IsArrive
   unfolding arrive_ok
   of_arrive e =
-      let p = and_true ((numbers_ok a_node fs && eqb (length fs) 3) && bytes_ok longest_id (field fs 1)) (bytes_ok longest_plaque (field fs 2))
-      e in
-      let q = and_true (numbers_ok a_node fs && eqb (length fs) 3) (bytes_ok longest_id (field fs 1)) p.0 in
+      let p = and_true ((numbers_ok a_node fs && eqb (length fs) 3) && bytes_ok 16 (field fs 1)) (bytes_ok 2047 (field fs 2)) e in
+      let q = and_true (numbers_ok a_node fs && eqb (length fs) 3) (bytes_ok 16 (field fs 1)) p.0 in
       let r = and_true (numbers_ok a_node fs) (eqb (length fs) 3) q.0 in
       record { node = r.0; three = eqb-true (length fs) 3 r.1; id = q.1; bytes = p.1 }
 
@@ -182,23 +181,23 @@ module _ (fs : List (List ℕ)) where
   unfolding store_ok
   is_store c =
       both
-      (both (numbers_split a_first a_count fs ∙ both c.first c.count) (eq-eqb (length fs) 2 c.two))
-      (both (le-leb 1 (number fs 1) c.some) (le-leb (number fs 0 + number fs 1) full.store c.inside))
+      (both (numbers_split (4095 ∷ []) (128 ∷ []) fs ∙ both c.first c.count) (eq-eqb (length fs) 2 c.two))
+      (both (le-leb 1 (number fs 1) c.some) (le-leb (number fs 0 + number fs 1) 4096 c.inside))
 
   pub of_store : store_ok fs ≡ true → IsStore
   unfolding store_ok
   of_store e =
-      let p = and_true (numbers_ok a_first_and_a_count fs && eqb (length fs) 2)
-      (leb 1 (number fs 1) && leb (number fs 0 + number fs 1) full.store) e in
+      let p = and_true (numbers_ok a_first_and_a_count fs && eqb (length fs) 2) (leb 1 (number fs 1) && leb (number fs 0 + number fs 1) 4096)
+      e in
       let q = and_true (numbers_ok a_first_and_a_count fs) (eqb (length fs) 2) p.0 in
-      let r = and_true (numbers_ok a_first fs) (numbers_ok a_count (drop 1 fs))
-      (sym (numbers_split a_first a_count fs) ∙ q.0) in
-      let t = and_true (leb 1 (number fs 1)) (leb (number fs 0 + number fs 1) full.store) p.1 in record {
+      let r = and_true (numbers_ok (4095 ∷ []) fs) (numbers_ok (128 ∷ []) (drop 1 fs))
+      (sym (numbers_split (4095 ∷ []) (128 ∷ []) fs) ∙ q.0) in
+      let t = and_true (leb 1 (number fs 1)) (leb (number fs 0 + number fs 1) 4096) p.1 in record {
         first = r.0;
         count = r.1;
         two = eqb-true (length fs) 2 q.1;
         some = leb-true 1 (number fs 1) t.0;
-        inside = leb-true (number fs 0 + number fs 1) full.store t.1;
+        inside = leb-true (number fs 0 + number fs 1) 4096 t.1;
       }
 
   -- a form is one of the fields
@@ -242,17 +241,17 @@ module _ (line : List ℕ) where
       ∙ no_cond _ (no_or (ne_eqb (length line) 0 d) ∙ ne_eqb (get_or line 0 0) 35 e)
       ∙ ap (λ (gs : List (List ℕ)). call_by (get_or gs 0 []) (drop 1 gs)) f
 
--- ---- what every line keeps to: a call's packet, ID and plaque have room, and collect lends `outputLent` words; a look is within the store
+-- ---- what every line keeps to: a call's packet, ID and plaque have room, and collect lends 135 words; a look is within the store
 unfoldable pub Kept : Spoken → Type 0
 Kept passed = Unit {0}
 Kept unreadable = Unit {0}
-Kept (call (command t f ws)) = length ws ≤ most_words
+Kept (call (command t f ws)) = length ws ≤ 256
 Kept (call (check n t c)) = Unit {0}
-Kept (call (arrive n id s)) = (length id ≤ longest_id) × (length s ≤ longest_plaque)
+Kept (call (arrive n id s)) = (length id ≤ 16) × (length s ≤ 2047)
 Kept (call (leave n)) = Unit {0}
-Kept (call (collect f n k)) = k ≡ output_lent
+Kept (call (collect f n k)) = k ≡ 135
 Kept (call (acknowledge n h)) = Unit {0}
-Kept (look first count) = (count ≤ most_shown) × (first + count ≤ full.store)
+Kept (look first count) = (count ≤ 128) × (first + count ≤ 4096)
 
 if-said : (ok : Bool) (c : Call) → (ok ≡ true → Kept (call c)) → Kept (saying ok c)
 unfolding Kept
@@ -265,11 +264,11 @@ either false a b p q = q
 
 store_kept : (fs : List (List ℕ)) → Kept (store_said fs)
 unfolding Kept
-store_kept fs = if-store (store_ok fs) refl
+store_kept fs = go (store_ok fs) refl
   where
-    if-store : (t : Bool) → store_ok fs ≡ t → Kept (cond t (look (number fs 0) (number fs 1)) unreadable)
-    if-store true e = let s = of_store fs e in (rw (sym (get_or-drop 1 fs 0 [])) (few_number most_shown (drop 1 fs) s.count), s.inside)
-    if-store false e = tt
+    go : (t : Bool) → store_ok fs ≡ t → Kept (cond t (look (number fs 0) (number fs 1)) unreadable)
+    go true e = let s = of_store fs e in (rw (sym (get_or-drop 1 fs 0 [])) (few_number 128 (drop 1 fs) s.count), s.inside)
+    go false e = tt
 
 by_kept : (w : List ℕ) (fs : List (List ℕ)) → Kept (call_by w fs)
 unfolding Kept call_by
@@ -277,8 +276,7 @@ by_kept w fs =
     either (same w (ascii "command")) _ _ (if-said (command_ok fs) _ (λ e. rw (length-map (drop 6 fs) word_of) (of_command fs e).few))
     (either (same w (ascii "check")) _ _ (if-said (check_ok fs) _ (λ e. tt))
     (either (same w (ascii "arrive")) _ _
-    (if-said (arrive_ok fs) _
-    (λ e. (bytes_few longest_id (field fs 1) (of_arrive fs e).id, bytes_few longest_plaque (field fs 2) (of_arrive fs e).bytes)))
+    (if-said (arrive_ok fs) _ (λ e. (bytes_few 16 (field fs 1) (of_arrive fs e).id, bytes_few 2047 (field fs 2) (of_arrive fs e).bytes)))
     (either (same w (ascii "leave")) _ _ (if-said (leave_ok fs) _ (λ e. tt))
     (either (same w (ascii "collect")) _ _ (if-said (collect_ok fs) _ (λ e. refl))
     (either (same w (ascii "acknowledge")) _ _ (if-said (acknowledge_ok fs) _ (λ e. tt))

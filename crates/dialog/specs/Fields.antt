@@ -5,8 +5,8 @@ use Rattle.units.specs.Count.{within, every}
 use Rattle.text.specs.Text.{ascii}
 use Rattle.meaning.specs.Call.{same}
 
--- "Fields stand apart by exactly one blank (0x20)": what stands before the first blank, between two, or after the last. So a second blank,
--- or one at the end, makes an empty field, which is no field of any call.
+-- "Fields stand apart by exactly one blank (0x20)": what stands before the first blank, between two, or after the last. So a second
+-- blank, or one at the end, makes an empty field, which is no field of any call.
 unfoldable pub before : ℕ → List (List ℕ) → List (List ℕ)
 before c [] = (c ∷ []) ∷ []
 before c (f ∷ fs) = (c ∷ f) ∷ fs

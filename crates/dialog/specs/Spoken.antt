@@ -1,13 +1,12 @@
 -- The console, "Lines in": what a line says, a call of document 01, a look at the store, nothing, or nothing that can be read.
 -- Assumes nothing.
-use Rattle.std.specs.Prelude.{ℕ, ◌+◌, ◌-◌, Bool, true, false, ◌&&◌, ◌||◌, cond, List, [], ◌∷◌, ◌++◌, map, leb, ltb, eqb, length, get_or, drop}
+use Rattle.std.specs.Prelude.{ℕ, ◌+◌, Bool, true, false, ◌&&◌, ◌||◌, cond, List, [], ◌∷◌, map, leb, ltb, eqb, length, get_or, drop}
 use Rattle.units.specs.Count.{every}
 use Rattle.units.specs.declared.Form.{Form}
 use Rattle.units.specs.declared.Form.TheVariants.{Register, Framed}
 use Rattle.units.specs.declared.stamp.Stamp.{Stamp}
 use Rattle.text.specs.Text.{ascii}
 use Rattle.meaning.specs.Bench.{full}
-use Rattle.meaning.specs.Packet.{longest_packet}
 use Rattle.meaning.specs.Call.{Call, command, check, arrive, leave, collect, acknowledge, same}
 use Rattle.dialog.specs.Fields.{fields, value_of, number_ok, word_ok, word_of, bytes_ok, bytes_of_hex}
 
@@ -37,18 +36,8 @@ a_node = 255 ∷ []
 abbrev pub a_node_and_number : List ℕ
 a_node_and_number = 255 ∷ 65535 ∷ []
 
--- "FIRST and FIRST + COUNT within the store, COUNT 1 to 128"
-abbrev pub most_shown : ℕ
-most_shown = 128
-
-abbrev pub a_first : List ℕ
-a_first = (full.store - 1) ∷ []
-
-abbrev pub a_count : List ℕ
-a_count = most_shown ∷ []
-
 abbrev pub a_first_and_a_count : List ℕ
-a_first_and_a_count = a_first ++ a_count
+a_first_and_a_count = 4095 ∷ 128 ∷ []
 
 -- "A packet has at most 256 words", "an ID has at most 16 bytes, a plaque at most 2,047"
 abbrev pub most_words : ℕ
@@ -59,10 +48,6 @@ longest_id = 16
 
 abbrev pub longest_plaque : ℕ
 longest_plaque = 2047
-
--- the output that is lent to collect: room for every answer, with word 00
-abbrev pub output_lent : ℕ
-output_lent = longest_packet + 1
 
 abbrev pub a_stamp : List ℕ
 a_stamp = 255 ∷ 255 ∷ 255 ∷ 255 ∷ 255 ∷ []
@@ -100,7 +85,7 @@ module _ (fs : List (List ℕ)) where
   unfoldable pub leave_ok : Bool
   leave_ok = numbers_ok a_node fs && eqb (length fs) 1
 
-  -- "`collect NODE FORM`"
+  -- "`collect NODE FORM`". The output lent has 135 words, room for every answer.
   unfoldable pub collect_ok : Bool
   collect_ok = numbers_ok a_node fs && eqb (length fs) 2 && is_form (field 1)
 
@@ -129,7 +114,7 @@ abbrev pub leave_said : List (List ℕ) → Spoken
 leave_said fs = saying (leave_ok fs) (leave (number fs 0))
 
 abbrev pub collect_said : List (List ℕ) → Spoken
-collect_said fs = saying (collect_ok fs) (collect (form_of (field fs 1)) (number fs 0) output_lent)
+collect_said fs = saying (collect_ok fs) (collect (form_of (field fs 1)) (number fs 0) 135)
 
 abbrev pub acknowledge_said : List (List ℕ) → Spoken
 acknowledge_said fs = saying (acknowledge_ok fs) (acknowledge (number fs 0) (number fs 1))
@@ -146,9 +131,9 @@ call_by w fs =
     (cond (same w (ascii "collect")) (collect_said fs)
     (cond (same w (ascii "acknowledge")) (acknowledge_said fs) (cond (same w (ascii "store")) (store_said fs) unreadable))))))
 
--- "First of all its length is looked at: a line of more than 4,400 bytes before its line feed is unreadable, whatever it starts with ..
--- Then an empty line, and one whose first byte is `#`, are passed over ..
--- Any other line that is no call of the table, to the byte .., is unreadable."
+-- "First of all its length is looked at: a line of more than 4,400 bytes before its line feed is unreadable, whatever it starts with
+-- .. Then an empty line, and one whose first byte is `#`, are passed over .. Any other line that is no call of the table, to the byte
+-- .., is unreadable."
 unfoldable pub spoken : List ℕ → Spoken
 spoken line =
     cond (ltb 4400 (length line)) unreadable

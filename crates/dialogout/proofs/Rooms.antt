@@ -8,19 +8,18 @@ use Rattle.promise.specs.Obeyed.{said_of}
 use Rattle.promise.specs.declared.Reply.{Reply}
 use Rattle.text.proofs.Writing.{length_words, decimal_short}
 use Rattle.listingout.proofs.Rooms.{refused_short}
-use Rattle.dialog.specs.Spoken.{output_lent, most_shown}
-use Rattle.dialog.specs.Dialog.{unreadable_line, collected_line, said_line, store_line, longest_answer}
+use Rattle.dialog.specs.Dialog.{unreadable_line, collected_line, said_line, store_line}
 
 pub length_unreadable : length unreadable_line ≡ 11
 unfolding unreadable_line
 length_unreadable = refl
 
--- a handover number, and an answer that the output lent has room for
-pub collected_short : (h : ℕ) (ws : List ℕ) → h < 10 ^ 5 → length ws ≤ output_lent → length (collected_line h ws) ≤ longest_answer
+-- a handover number, and an answer of at most 135 words
+pub collected_short : (h : ℕ) (ws : List ℕ) → h < 10 ^ 5 → length ws ≤ 135 → length (collected_line h ws) ≤ 691
 unfolding collected_line
 collected_short h ws a b = simp length-append (omega (arith, decimal_short 4 h a, length_words ws))
 
-pub store_short : (ws : List ℕ) → length ws ≤ most_shown → length (store_line ws) ≤ longest_answer
+pub store_short : (ws : List ℕ) → length ws ≤ 128 → length (store_line ws) ≤ 691
 unfolding store_line
 store_short ws h = simp length-append (omega (arith, length_words ws))
 

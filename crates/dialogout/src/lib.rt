@@ -1,10 +1,11 @@
 // The lines out of the console. The caller sees to the room.
+#![tactic(auto)]
+
 ghost use Rattle.std.specs.Prelude.{◌+◌, ◌≤◌, length};
 ghost use Rattle.text.specs.Text.{Put};
-ghost use Rattle.meaning.specs.Packet.{longest_packet};
+ghost use Rattle.meaning.specs.Packet.{overall};
 ghost use Rattle.meaning.specs.Response.{shown};
 ghost use Rattle.promise.specs.Obeyed.{said_of};
-ghost use Rattle.dialog.specs.Spoken.{most_shown};
 ghost use Rattle.dialog.specs.Dialog.{unreadable_line, collected_line, said_line, store_line, longest_answer};
 
 use listingout::put_refused;
@@ -47,7 +48,7 @@ pub fn put_handed(
     node: u8,
     words: &[u16],
 ) -> usize
-    requires { (at + longest_answer ≤ length out.old) × (1 ≤ length words.now) × (length words.now ≤ longest_packet) }
+    requires { (at + longest_answer ≤ length out.old) × (1 ≤ length words.now) × (length words.now ≤ overall 255) }
     ensures { Put out.old at (collected_line number (shown form node words.now)) out.new result }
 {
     let from = put_text(out, at, b"collected ");
@@ -63,7 +64,7 @@ pub fn put_handed(
 
 // Words of the answer store.
 pub fn put_store(out: &mut [u8], at: usize, words: &[u16]) -> usize
-    requires { (at + longest_answer ≤ length out.old) × (length words.now ≤ most_shown) }
+    requires { (at + longest_answer ≤ length out.old) × (length words.now ≤ 128) }
     ensures { Put out.old at (store_line words.now) out.new result }
 {
     let to = put_text(out, at, b"store ");

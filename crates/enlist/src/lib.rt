@@ -1,4 +1,6 @@
 // An answer enlisted: room judged and the answer joined to its list, in one place.
+#![tactic(auto)]
+
 ghost use Rattle.std.specs.Prelude.{length};
 ghost use Rattle.meaning.specs.Bench.{full};
 ghost use Rattle.store.specs.Swept.{Enlistable, Enlists};

@@ -1,4 +1,6 @@
 // The field check of a reader, decided on its own record and its region alone.
+#![tactic(auto)]
+
 ghost use Rattle.std.specs.Prelude.{◌≡◌, false, length};
 ghost use Rattle.meaning.specs.Bench.{full};
 ghost use Rattle.decided.specs.Decided.{Readable, quietly, Looks};

@@ -1,4 +1,6 @@
-// The fields of a line of the console, and the words of the table.
+// The fields of a line, and the words of the table.
+#![tactic(auto)]
+
 ghost use Rattle.std.specs.Prelude.{◌≡◌, true, false, ◌<◌, ◌≤◌, length, get_or};
 ghost use Rattle.meaning.specs.Call.{same};
 ghost use Rattle.dialog.specs.Spoken.{is_form, form_of};
@@ -7,7 +9,7 @@ ghost use Rattle.fields.specs.FieldsAt.{FieldAt, verb_of};
 use units::Form;
 
 // A line's first field, of a call or a look at the store.
-#[derive(Drop)]
+#[derive(Clone, Copy)]
 pub enum Verb {
     Command,
     Check,
@@ -19,7 +21,7 @@ pub enum Verb {
     None,
 }
 
-#[derive(Drop)]
+#[derive(Clone, Copy)]
 pub struct FormRead {
     pub ok: bool,
     pub form: Form,

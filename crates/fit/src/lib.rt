@@ -1,4 +1,6 @@
 // Refusals 1 and 2: what is lent has its lengths, and the state is consistent.
+#![tactic(auto)]
+
 ghost use Rattle.std.specs.Prelude.{◌≡◌, ◌<◌, drop, get_or};
 ghost use Rattle.units.specs.Count.{every};
 ghost use Rattle.meaning.specs.Bench.{full};

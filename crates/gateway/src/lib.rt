@@ -1,5 +1,7 @@
-// The six calls of document 01. Each judges refusals 1 and 2, and then does its work on a machine that is known to be consistent. None asks
-// anything of its caller; those that carry the proof of a consistent machine call the inner functions instead.
+// The six calls of document 01. Each judges refusals 1 and 2, and then does its work on a machine that is known to be consistent. None
+// asks anything of its caller; those that carry the proof of a consistent machine call the inner functions instead.
+#![tactic(auto)]
+
 ghost use Rattle.std.specs.Prelude.{length};
 ghost use Rattle.meaning.specs.Bench.{full};
 ghost use Rattle.meaning.specs.Call as S;

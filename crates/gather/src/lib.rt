@@ -1,4 +1,6 @@
 // Lines found in the input: where one ends, and how many there are.
+#![tactic(auto)]
+
 ghost use Rattle.std.specs.Prelude.{◌≡◌, ◌+◌, ◌≤◌, length, take, drop};
 ghost use mathlib.Core.List.{filter};
 ghost use Rattle.std.proofs.Math.Decide.{ℕ_discrete};

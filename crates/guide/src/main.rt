@@ -1,6 +1,8 @@
 // Runs the worked packets of the sources, given on standard input as lines `NAME | direction | form | words | expected | source`: reads
 // each in the form named and writes `NAME`, what it says or its refusal, and whether it is the same when written again. The column
 // `expected` is not looked at. Empty lines, and notes, which start with #, are passed over.
+#![tactic(auto)]
+
 mod again;
 mod commands;
 mod responses;

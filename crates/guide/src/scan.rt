@@ -52,7 +52,7 @@ fn digit(b: u8) -> u16 {
     }
 }
 
-#[derive(Drop)]
+#[derive(Clone, Copy)]
 enum Found {
     Word(u16),
     Nothing,

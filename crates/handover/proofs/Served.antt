@@ -3,7 +3,7 @@
 use Rattle.units.proofs.Common.{sym, ◌∙◌, ◌≡◌, refl, ap, subst, true, false, Bool, cond, List, ℕ, ◌≤◌, ◌+◌, ◌<◌, arith, length, drop, get_or}
 use Rattle.units.proofs.Common.{take, set, get_or-drop, eq-eqb, yes_cond, no_cond}
 use Rattle.meaning.specs.Bench.{node_count}
-use Rattle.meaning.proofs.Terms.{Bench, full, is_node, Call, Said, refused, Outcome, step, longest_packet}
+use Rattle.meaning.proofs.Terms.{Bench, full, is_node, Call, Said, refused, Outcome, step, overall}
 use Rattle.machine.proofs.Terms.{Machine, node_slot, nodes_in, meaning, fresh_node, taken_node, counts, unfit}
 use Rattle.state.specs.declared.node.Node.{Node}
 use Rattle.store.specs.Changes.{with_lists, Listed, taken_at}
@@ -52,7 +52,7 @@ pub record Stands (m : Machine) (place : ℕ) (w : List ℕ) : Type 0 where
   pub says : get_or m.store place 0 ≡ length w
   pub words : take (get_or m.store place 0) (drop place m.store) ≡ w
   pub least : 6 ≤ length w
-  pub most : length w ≤ longest_packet
+  pub most : length w ≤ overall 255
   pub inside : place + length w ≤ length m.store
 
 pub stands : (m : Machine) (fits : unfit full m ≡ 0) (n i : ℕ) (f : Found m n i) (some : 0 < (get_or m.state.nodes i blank).answers)

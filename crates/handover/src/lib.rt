@@ -1,4 +1,6 @@
 // Answers acknowledged: at a list, and on a machine that is known to be consistent.
+#![tactic(auto)]
+
 ghost use Rattle.std.specs.Prelude.{◌≡◌};
 ghost use Rattle.meaning.specs.Bench.{full};
 ghost use Rattle.meaning.specs.Call.{acknowledge, step};
@@ -37,7 +39,7 @@ pub fn acknowledge(s: State, node: u8, number: u16, store: &mut [u16], plaques: 
 }
 
 // A node and the words that all nodes hold, after a call for its list; and what is said.
-#[derive(Drop)]
+#[derive(Clone, Copy)]
 pub struct Listed {
     pub node: Node,
     pub held: [Words; NODES],

@@ -1,34 +1,39 @@
 -- A run file opened: its lines one plaque further, at the count, broken; and what stands of it.
 -- Assumes nothing.
-use Rattle.units.proofs.Common.{sym, ◌∙◌, ◌≡◌, ap, true, false, List, [], ◌∷◌, ℕ, ◌≤◌, ◌-◌, ◌+◌, ◌<◌, suc, zero, arith, length, drop, take}
+use Rattle.units.proofs.Common.{sym, ◌∙◌, ◌≡◌, ap, true, false, List, [], ◌∷◌, ℕ, ◌≤◌, ◌-◌, ◌+◌, ◌<◌, suc, zero, arith, length, drop}
 use Rattle.units.proofs.Common.{drop-drop, le-leb, lt-leb, yes_cond, no_cond, subst, false≢true, length-drop}
 use Rattle.meaning.proofs.Terms.{Bench, Gateway}
-use Rattle.listing.specs.Records.{count_whole, count_said, plaque_whole, plaque_length}
+use Rattle.listing.specs.Records.{count_whole, count_said, plaque_whole, plaque_length, plaque_size}
 use Rattle.listing.specs.Lines.{commands_line, broken_line}
 use Rattle.listing.specs.Listing.{arrived, command_lines, counted_lines, plaque_lines, file_lines, longest_file}
 use Rattle.machine.proofs.Terms.{Machine, machine, meaning, unfit}
 use Rattle.state.specs.declared.State.{State}
-use Rattle.units.proofs.Tails.{tail_all}
 use Rattle.runfile.proofs.Records.{count_there}
 use Rattle.hearing.specs.Opened.{to_come, open_lines, Stands}
 use Rattle.hearing.specs.declared.opening.Opened.{Opened}
 
-module _ (b : Bench) (g : Gateway) (bs : List ℕ) where
-  -- one plaque further, l bytes long, after which the gateway is z
-  pub plaque_on : (k l : ℕ) {z : Gateway} → 0 < k → plaque_whole b bs ≡ true → l ≡ plaque_length bs → z ≡ arrived b g bs
-      → plaque_lines b (k - 1) z (take (length bs - (11 + l)) (drop (11 + l) bs)) ≡ plaque_lines b k g bs
+module _ (b : Bench) (g : Gateway) (file : List ℕ) (at : ℕ) where
+  pub plaque_on : (k l : ℕ) → 0 < k → plaque_whole b (drop at file) ≡ true → l ≡ plaque_length (drop at file)
+      → plaque_lines b k g (drop at file) ≡ plaque_lines b (k - 1) (arrived b g (drop at file)) (drop (at + 11 + l) file)
   unfolding plaque_lines
-  plaque_on zero l h w e f = absurd (omega arith)
-  plaque_on (suc k) l h w e f =
-      let d : suc k - 1 ≡ k = omega arith in
-      rw (tail_all (11 + l) bs, d, f, e) (sym (yes_cond (broken_line ∷ []) w))
+  plaque_on zero l h w e = absurd (omega arith)
+  plaque_on (suc k) l h w e =
+      let a : at + plaque_size (drop at file) ≡ at + 11 + l = omega (arith, e) in
+      let d : k ≡ suc k - 1 = omega arith in
+      yes_cond (broken_line ∷ []) w
+      ∙ ap (plaque_lines b k (arrived b g (drop at file))) (drop-drop (plaque_size (drop at file)) at file ∙ ap (λ (z : ℕ). drop z file) a)
+      ∙ ap (λ (z : ℕ). plaque_lines b z (arrived b g (drop at file)) (drop (at + 11 + l) file)) d
 
-  pub count_on : (k n : ℕ) → k ≡ 0 → count_whole bs ≡ true → n ≡ count_said bs
-      → plaque_lines b k g bs ≡ commands_line n ∷ command_lines b n g (drop 2 bs)
+  pub count_on : (k n : ℕ) → k ≡ 0 → count_whole (drop at file) ≡ true → n ≡ count_said (drop at file)
+      → plaque_lines b k g (drop at file) ≡ commands_line n ∷ command_lines b n g (drop (at + 2) file)
   unfolding plaque_lines counted_lines
-  count_on zero n h w e = yes_cond (broken_line ∷ []) w ∙ ap (λ (n : ℕ). commands_line n ∷ command_lines b n g (drop 2 bs)) (sym e)
+  count_on zero n h w e =
+      yes_cond (broken_line ∷ []) w
+      ∙ ap (λ (z : List ℕ). commands_line (count_said (drop at file)) ∷ command_lines b (count_said (drop at file)) g z) (drop-drop 2 at file)
+      ∙ ap (λ (z : ℕ). commands_line z ∷ command_lines b z g (drop (at + 2) file)) (sym e)
   count_on (suc k) n h w e = absurd (omega (arith, h))
 
+module _ (b : Bench) (g : Gateway) (bs : List ℕ) where
   pub plaque_off : (k : ℕ) → 0 < k → plaque_whole b bs ≡ false → plaque_lines b k g bs ≡ broken_line ∷ []
   unfolding plaque_lines
   plaque_off zero h w = absurd (omega arith)
@@ -72,38 +77,15 @@ stands_broken {b} {file} {ls} {s} {store} {memory} e u o f =
       short = λ q. absurd (false≢true q);
     })
 
--- ---- the bytes left: the file ends with them
-abbrev pub EndsWith : List ℕ → List ℕ → Type 0
-EndsWith file bs = bs ≡ drop (length file - length bs) file
-
-pub ends_inside : (file : List ℕ) {bs : List ℕ} → EndsWith file bs → length bs ≤ length file
-ends_inside file {bs} e = omega (arith, ap length e ∙ length-drop (length file - length bs) file)
-
-module _ (file : List ℕ) {bs : List ℕ} (l : ℕ) where
-  pub ends_begun : bs ≡ drop l file → l ≤ length file → EndsWith file bs
-  ends_begun e h =
-      let d : l ≡ length file - length bs = omega (arith, ap length e, h, length-drop l file) in
-      e ∙ ap (λ (k : ℕ). drop k file) d
-
-  pub ends_later : EndsWith file bs → l ≤ length bs → EndsWith file (take (length bs - l) (drop l bs))
-  ends_later e h =
-      let a = ap length e ∙ length-drop (length file - length bs) file in
-      let d : length file - length bs + l ≡ length file - length (drop l bs) = omega (arith, a, h, length-drop l bs) in
-      rw (tail_all l bs) (ap (drop l) e ∙ drop-drop l (length file - length bs) file ∙ ap (λ (k : ℕ). drop k file) d)
-
--- the command count read of the bytes left
-pub stands_counted : {b : Bench} (file : List ℕ) {bs : List ℕ} {m : Machine} {k n : ℕ} {s : State} → EndsWith file bs → k ≡ 0
-    → count_whole bs ≡ true → n ≡ count_said bs → length file ≤ longest_file → unfit b m ≡ 0
-    → Stands b file (plaque_lines b k (meaning b m) bs)
-    (record { walk = record { at = length file - length bs + 2; left = n }; state = s; fine = true }) m
+pub stands_counted : {b : Bench} {file : List ℕ} {m : Machine} (at : ℕ) {k n : ℕ} {s : State} → k ≡ 0 → count_whole (drop at file) ≡ true
+    → n ≡ count_said (drop at file) → length file ≤ longest_file → unfit b m ≡ 0
+    → Stands b file (plaque_lines b k (meaning b m) (drop at file))
+    (record { walk = record { at = at + 2; left = n }; state = s; fine = true }) m
 unfolding open_lines
-stands_counted {b} file {bs} {m} {k} {n} f z w e l u = record {
-  lines =
-      ap (λ (x : List ℕ). commands_line n ∷ command_lines b n (meaning b m) x)
-      (sym (drop-drop 2 (length file - length bs) file) ∙ ap (drop 2) (sym f))
-      ∙ sym (count_on b (meaning b m) bs k n z w e);
+stands_counted {b} {file} {m} at {k} {n} z w e l u = record {
+  lines = sym (count_on b (meaning b m) file at k n z w e);
   sound = u;
-  inside = λ q. omega (arith, count_there bs w, ap length f, length-drop (length file - length bs) file);
+  inside = λ q. omega (arith, count_there (drop at file) w, length-drop at file);
   short = λ q. l;
 }
 

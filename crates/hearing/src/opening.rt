@@ -6,20 +6,19 @@ ghost use Rattle.machine.specs.Consistent.{unfit};
 ghost use Rattle.listing.specs.Listing.{longest_file};
 ghost use Rattle.hearing.specs.Opened.{Brings, Opens};
 
-use crate::arrive_first;
-use runfile::cursor::{count_of, plaque_of};
-use runfile::{CountRecord, LONGEST_FILE, PlaqueRecord, rest_of};
+use crate::arrive_at;
+use runfile::{CountRecord, LONGEST_FILE, PlaqueRecord, read_count, read_plaque};
 use state::State;
 
 // Where the walk over the commands is, and how many are to come by the count.
-#[derive(Drop)]
+#[derive(Clone, Copy)]
 pub struct Walk {
     pub at: usize,
     pub left: u16,
 }
 
 // After the plaques: where the commands begin, or that the file is broken before them.
-#[derive(Drop)]
+#[derive(Clone, Copy)]
 pub struct Opened {
     pub state: State,
     pub walk: Walk,
@@ -44,23 +43,22 @@ fn bring(file: &[u8], count: u16, s: State, store: &[u16], plaques: &mut [u8]) -
     ensures { Brings full count file.now (meaning full (machine s store.now plaques.old)) result
         (machine result.state store.now plaques.new) }
 {
-    let mut rest = rest_of(file, 2);
+    let mut at = 2;
     let mut left = count;
     let mut t = s;
     while 0 < left {
-        let PlaqueRecord::Plaque { node, length } = plaque_of(rest) else {
+        let PlaqueRecord::Plaque { node, length } = read_plaque(file, at) else {
             return broken(t);
         };
-        t = arrive_first(rest, node, length, t, store, plaques);
-        let size = 11 + length.0 as usize;
-        rest = &rest[size..];
+        t = arrive_at(file, at, node, length, t, store, plaques);
+        at = at + 11 + length.0 as usize;
         left -= 1;
     }
-    let CountRecord::Count(commands) = count_of(rest) else {
+    let CountRecord::Count(commands) = read_count(file, at) else {
         return broken(t);
     };
     let walk = Walk {
-        at: file.len() - rest.len() + 2,
+        at: at + 2,
         left: commands,
     };
     Opened {
@@ -78,7 +76,7 @@ pub fn open(file: &[u8], s: State, store: &[u16], plaques: &mut [u8]) -> Opened
     if LONGEST_FILE < file.len() {
         return broken(s);
     }
-    let CountRecord::Count(count) = count_of(file) else {
+    let CountRecord::Count(count) = read_count(file, 0) else {
         return broken(s);
     };
     bring(file, count, s, store, plaques)

@@ -1,5 +1,7 @@
 // Words and bytes in hexadecimal digits. They are judged before the first is put, in a pass of their own: where a line is unreadable, what
 // was lent for them stays as it was.
+#![tactic(auto)]
+
 ghost use Rattle.std.specs.Prelude.{◌≡◌, true, ◌||◌, ◌+◌, ◌*◌, ◌%◌, ◌<◌, ◌≤◌, length, take, drop};
 ghost use Rattle.units.specs.Count.{every};
 ghost use Rattle.std.proofs.lemmas.List.Edits.{sets};
@@ -13,7 +15,7 @@ use numbers::{both, is_within};
 use units::Bytes;
 
 // How many fields from a place on are words, where all are. A line may have more than a word can say, so this is no Words.
-#[derive(Drop)]
+#[derive(Clone, Copy)]
 pub struct WordsRead {
     pub ok: bool,
     pub words: usize,

@@ -10,7 +10,7 @@ use Rattle.dialog.proofs.SpokenLaws.{IsCollect, of_collect, IsAcknowledge, of_ac
 use Rattle.dialog.proofs.FieldLaws.{nowise}
 use Rattle.lines.specs.declared.Heard.{Heard}
 use Rattle.fields.specs.FieldsAt.{fields_from, FieldAt}
-use Rattle.lines.specs.Heard.{heard_of, Buffers, nothing, in_buffers}
+use Rattle.lines.specs.Heard.{heard_of, words_in, id_in, bytes_in}
 use Rattle.fields.proofs.Places.{from_past, from_some}
 use Rattle.numbers.proofs.Numbers.{From}
 
@@ -70,21 +70,22 @@ unheard : (ok : Bool) (t : Spoken) → (ok ≡ true → ⊥) → Heard.Unreadabl
 unfolding heard_of
 unheard ok t h = rw (nowise ok h)
 
-untouched : (g : Buffers → List ℕ) (ok : Bool) (t : Spoken) (old : List ℕ) → g nothing ≡ [] → (ok ≡ true → ⊥)
-    → old ≡ sets old 0 (g (in_buffers (cond ok t unreadable)))
-unfolding in_buffers
+untouched : (g : Spoken → List ℕ) (ok : Bool) (t : Spoken) (old : List ℕ) → g unreadable ≡ [] → (ok ≡ true → ⊥)
+    → old ≡ sets old 0 (g (cond ok t unreadable))
 untouched g ok t old e h = rw (nowise ok h, e)
 
 module _ (fs : List (List ℕ)) where
   pub no_command : (old : List ℕ) → (IsCommand fs → ⊥)
-      → (Heard.Unreadable ≡ heard_of (command_said fs)) × (old ≡ sets old 0 (in_buffers (command_said fs)).words)
-  no_command old h = let n : command_ok fs ≡ true → ⊥ = λ e. h (of_command fs e) in (unheard _ _ n, untouched (λ s. s.words) _ _ old refl n)
+      → (Heard.Unreadable ≡ heard_of (command_said fs)) × (old ≡ sets old 0 (words_in (command_said fs)))
+  unfolding words_in
+  no_command old h = let n : command_ok fs ≡ true → ⊥ = λ e. h (of_command fs e) in (unheard _ _ n, untouched words_in _ _ old refl n)
 
   pub no_arrive : (id bytes : List ℕ) → (IsArrive fs → ⊥) → (Heard.Unreadable ≡ heard_of (arrive_said fs))
-      × ((id ≡ sets id 0 (in_buffers (arrive_said fs)).id) × (bytes ≡ sets bytes 0 (in_buffers (arrive_said fs)).bytes))
+      × ((id ≡ sets id 0 (id_in (arrive_said fs))) × (bytes ≡ sets bytes 0 (bytes_in (arrive_said fs))))
+  unfolding id_in bytes_in
   no_arrive id bytes h =
       let n : arrive_ok fs ≡ true → ⊥ = λ e. h (of_arrive fs e) in
-      (unheard _ _ n, (untouched (λ s. s.id) _ _ id refl n, untouched (λ s. s.bytes) _ _ bytes refl n))
+      (unheard _ _ n, (untouched id_in _ _ id refl n, untouched bytes_in _ _ bytes refl n))
 
   pub no_check : (IsCheck fs → ⊥) → Heard.Unreadable ≡ heard_of (check_said fs)
   no_check h = unheard _ _ (λ e. h (of_check fs e))

@@ -8,7 +8,7 @@ use Rattle.lines.specs.declared.Heard.{Heard}
 use Rattle.fields.specs.declared.Verb.{Verb}
 use Rattle.fields.specs.declared.Verb.TheVariants.{Command, Check, Arrive, Leave, Collect, Acknowledge, Store, None}
 use Rattle.fields.specs.FieldsAt.{verb_of, fields_from, FieldAt}
-use Rattle.lines.specs.Heard.{heard_of, Buffers, nothing, in_buffers}
+use Rattle.lines.specs.Heard.{heard_of, words_in, id_in, bytes_in}
 use Rattle.fields.proofs.Places.{from_in}
 
 -- ---- the call by its first field
@@ -40,56 +40,47 @@ line_said {line} {r} {u} {v} f eu ev h d e =
 
 -- ---- what is returned, and the buffers before and after
 abbrev pub Read : Spoken → Heard → List ℕ → List ℕ → List ℕ → List ℕ → List ℕ → List ℕ → Type 0
-Read s r w w' i i' b b' =
-    (r ≡ heard_of s)
-    × ((w' ≡ sets w 0 (in_buffers s).words) × ((i' ≡ sets i 0 (in_buffers s).id) × (b' ≡ sets b 0 (in_buffers s).bytes)))
+Read s r w w' i i' b b' = (r ≡ heard_of s) × ((w' ≡ sets w 0 (words_in s)) × ((i' ≡ sets i 0 (id_in s)) × (b' ≡ sets b 0 (bytes_in s))))
 
--- where a call says nothing for the buffers, or for one of them
-quiet : (ok : Bool) (t : Spoken) → in_buffers t ≡ nothing → in_buffers (cond ok t unreadable) ≡ nothing
-unfolding in_buffers
-quiet true t e = e
-quiet false t e = refl
-
-still : (g : Buffers → List ℕ) (ok : Bool) (t : Spoken) (l : List ℕ) → g (in_buffers t) ≡ [] → g nothing ≡ []
-    → l ≡ sets l 0 (g (in_buffers (cond ok t unreadable)))
-unfolding in_buffers
+-- a buffer that a call says nothing for
+still : (g : Spoken → List ℕ) (ok : Bool) (t : Spoken) (l : List ℕ) → g t ≡ [] → g unreadable ≡ [] → l ≡ sets l 0 (g (cond ok t unreadable))
 still g true t l e u = rw e
 still g false t l e u = rw u
 
 module _ (w i b : List ℕ) (r : Heard) {s : Spoken} where
-  pub quiet_read : (ok : Bool) (t : Spoken) → in_buffers t ≡ nothing → s ≡ cond ok t unreadable
+  pub quiet_read : (ok : Bool) (t : Spoken) → words_in t ≡ [] → id_in t ≡ [] → bytes_in t ≡ [] → s ≡ cond ok t unreadable
       → r ≡ heard_of (cond ok t unreadable) → Read s r w w i i b b
-  quiet_read ok t p e h = rw e (h, rw (quiet ok t p) (refl, (refl, refl)))
+  unfolding words_in id_in bytes_in
+  quiet_read ok t p q z e h =
+      rw e (h, (still words_in ok t w p refl, (still id_in ok t i q refl, still bytes_in ok t b z refl)))
 
   module _ (fs : List (List ℕ)) where
-    pub command_read : (w' : List ℕ) → s ≡ command_said fs
-        → (r ≡ heard_of (command_said fs)) × (w' ≡ sets w 0 (in_buffers (command_said fs)).words) → Read s r w w' i i b b
-    unfolding in_buffers
-    command_read w' e h =
-        rw e (h.0, (h.1, (still (λ s. s.id) (command_ok fs) _ i refl refl, still (λ s. s.bytes) (command_ok fs) _ b refl refl)))
+    pub command_read : (w' : List ℕ) → s ≡ command_said fs → (r ≡ heard_of (command_said fs)) × (w' ≡ sets w 0 (words_in (command_said fs)))
+        → Read s r w w' i i b b
+    unfolding id_in bytes_in
+    command_read w' e h = rw e (h.0, (h.1, (still id_in (command_ok fs) _ i refl refl, still bytes_in (command_ok fs) _ b refl refl)))
 
-    pub arrive_read : (i' b' : List ℕ) → s ≡ arrive_said fs
-        → (r ≡ heard_of (arrive_said fs)) × ((i' ≡ sets i 0 (in_buffers (arrive_said fs)).id)
-        × (b' ≡ sets b 0 (in_buffers (arrive_said fs)).bytes)) → Read s r w w i i' b b'
-    unfolding in_buffers
-    arrive_read i' b' e h = rw e (h.0, (still (λ s. s.words) (arrive_ok fs) _ w refl refl, h.1))
+    pub arrive_read : (i' b' : List ℕ) → s ≡ arrive_said fs → (r ≡ heard_of (arrive_said fs)) × ((i' ≡ sets i 0 (id_in (arrive_said fs)))
+        × (b' ≡ sets b 0 (bytes_in (arrive_said fs)))) → Read s r w w i i' b b'
+    unfolding words_in
+    arrive_read i' b' e h = rw e (h.0, (still words_in (arrive_ok fs) _ w refl refl, h.1))
 
     pub check_read : s ≡ check_said fs → r ≡ heard_of (check_said fs) → Read s r w w i i b b
-    unfolding in_buffers
-    check_read = quiet_read (check_ok fs) _ refl
+    unfolding words_in id_in bytes_in
+    check_read = quiet_read (check_ok fs) _ refl refl refl
 
     pub leave_read : s ≡ leave_said fs → r ≡ heard_of (leave_said fs) → Read s r w w i i b b
-    unfolding in_buffers
-    leave_read = quiet_read (leave_ok fs) _ refl
+    unfolding words_in id_in bytes_in
+    leave_read = quiet_read (leave_ok fs) _ refl refl refl
 
     pub collect_read : s ≡ collect_said fs → r ≡ heard_of (collect_said fs) → Read s r w w i i b b
-    unfolding in_buffers
-    collect_read = quiet_read (collect_ok fs) _ refl
+    unfolding words_in id_in bytes_in
+    collect_read = quiet_read (collect_ok fs) _ refl refl refl
 
     pub acknowledge_read : s ≡ acknowledge_said fs → r ≡ heard_of (acknowledge_said fs) → Read s r w w i i b b
-    unfolding in_buffers
-    acknowledge_read = quiet_read (acknowledge_ok fs) _ refl
+    unfolding words_in id_in bytes_in
+    acknowledge_read = quiet_read (acknowledge_ok fs) _ refl refl refl
 
     pub store_read : s ≡ store_said fs → r ≡ heard_of (store_said fs) → Read s r w w i i b b
-    unfolding in_buffers
-    store_read = quiet_read (store_ok fs) _ refl
+    unfolding words_in id_in bytes_in
+    store_read = quiet_read (store_ok fs) _ refl refl refl

@@ -16,22 +16,36 @@ heard_of (call (collect f n k)) = Heard.Collect n f
 heard_of (call (acknowledge n h)) = Heard.Acknowledge n h
 heard_of (look f c) = Heard.Store f c
 
--- what then stands in the buffers: a packet's words, a plaque's ID and its bytes
-pub record Buffers : Type 0 where
-  pub words : List ℕ
-  pub id : List ℕ
-  pub bytes : List ℕ
+-- what stands in the buffers
+unfoldable pub words_in : Spoken → List ℕ
+words_in passed = []
+words_in unreadable = []
+words_in (call (command t f ws)) = ws
+words_in (call (check n t c)) = []
+words_in (call (arrive n id s)) = []
+words_in (call (leave n)) = []
+words_in (call (collect f n k)) = []
+words_in (call (acknowledge n h)) = []
+words_in (look f c) = []
 
-abbrev pub nothing : Buffers
-nothing = record { words = []; id = []; bytes = [] }
+unfoldable pub id_in : Spoken → List ℕ
+id_in passed = []
+id_in unreadable = []
+id_in (call (command t f ws)) = []
+id_in (call (check n t c)) = []
+id_in (call (arrive n id s)) = id
+id_in (call (leave n)) = []
+id_in (call (collect f n k)) = []
+id_in (call (acknowledge n h)) = []
+id_in (look f c) = []
 
-unfoldable pub in_buffers : Spoken → Buffers
-in_buffers passed = nothing
-in_buffers unreadable = nothing
-in_buffers (call (command t f ws)) = record { words = ws; id = []; bytes = [] }
-in_buffers (call (check n t c)) = nothing
-in_buffers (call (arrive n id s)) = record { words = []; id = id; bytes = s }
-in_buffers (call (leave n)) = nothing
-in_buffers (call (collect f n k)) = nothing
-in_buffers (call (acknowledge n h)) = nothing
-in_buffers (look f c) = nothing
+unfoldable pub bytes_in : Spoken → List ℕ
+bytes_in passed = []
+bytes_in unreadable = []
+bytes_in (call (command t f ws)) = []
+bytes_in (call (check n t c)) = []
+bytes_in (call (arrive n id s)) = s
+bytes_in (call (leave n)) = []
+bytes_in (call (collect f n k)) = []
+bytes_in (call (acknowledge n h)) = []
+bytes_in (look f c) = []

@@ -3,18 +3,17 @@ ghost use Rattle.std.specs.Prelude.{◌≡◌};
 ghost use Rattle.std.proofs.lemmas.List.Edits.{sets};
 ghost use Rattle.dialog.specs.Spoken.{command_said, check_said, arrive_said, leave_said, collect_said, acknowledge_said, store_said};
 ghost use Rattle.fields.specs.FieldsAt.{fields_from};
-ghost use Rattle.lines.specs.Heard.{heard_of, in_buffers};
+ghost use Rattle.lines.specs.Heard.{heard_of, words_in, id_in, bytes_in};
 
-use crate::{Heard, LAST_WORD, LONGEST_ID, LONGEST_PLAQUE, MOST_SHOWN, MOST_WORDS};
+use crate::{Heard, LONGEST_ID, LONGEST_PLAQUE, MOST_WORDS};
 use fields::{field_end, form_of};
 use hex::{count_words, is_bytes, put_bytes, put_words};
 use numbers::{read_node, read_number, read_stamp};
-use units::Words;
+use units::{Bytes, Words};
 
 pub fn read_command(line: &[u8], at: usize, words: &mut [u16]) -> Heard
     ensures value { result ≡ heard_of (command_said (fields_from line.now at)) }
-    ensures words_after { words.new ≡ sets words.old 0
-        (in_buffers (command_said (fields_from line.now at))).words }
+    ensures words_after { words.new ≡ sets words.old 0 (words_in (command_said (fields_from line.now at))) }
 {
     let t = read_stamp(line, at);
     if !t.ok || line.len() < t.next {
@@ -64,8 +63,8 @@ pub fn read_check(line: &[u8], at: usize) -> Heard
 
 pub fn read_arrive(line: &[u8], at: usize, id: &mut [u8], bytes: &mut [u8]) -> Heard
     ensures value { result ≡ heard_of (arrive_said (fields_from line.now at)) }
-    ensures id_after { id.new ≡ sets id.old 0 (in_buffers (arrive_said (fields_from line.now at))).id }
-    ensures bytes_after { bytes.new ≡ sets bytes.old 0 (in_buffers (arrive_said (fields_from line.now at))).bytes }
+    ensures id_after { id.new ≡ sets id.old 0 (id_in (arrive_said (fields_from line.now at))) }
+    ensures bytes_after { bytes.new ≡ sets bytes.old 0 (bytes_in (arrive_said (fields_from line.now at))) }
 {
     let n = read_node(line, at);
     let from = n.next;
@@ -144,8 +143,8 @@ pub fn read_acknowledge(line: &[u8], at: usize) -> Heard
 pub fn read_store(line: &[u8], at: usize) -> Heard
     ensures { result ≡ heard_of (store_said (fields_from line.now at)) }
 {
-    let f = read_number(line, at, LAST_WORD);
-    let k = read_number(line, f.next, MOST_SHOWN);
+    let f = read_number(line, at, 4095);
+    let k = read_number(line, f.next, 128);
     if !f.ok || !k.ok {
         return Heard::Unreadable;
     }

@@ -1,10 +1,12 @@
 // A line of the console, read to what it says. Any line, any buffers: nothing is asked of the caller.
+#![tactic(auto)]
+
 pub mod calls;
 
 ghost use Rattle.std.specs.Prelude.{◌≡◌};
 ghost use Rattle.std.proofs.lemmas.List.Edits.{sets};
 ghost use Rattle.dialog.specs.Spoken.{spoken};
-ghost use Rattle.lines.specs.Heard.{heard_of, in_buffers};
+ghost use Rattle.lines.specs.Heard.{heard_of, words_in, id_in, bytes_in};
 
 use crate::calls::{
     read_acknowledge, read_arrive, read_check, read_collect, read_command, read_leave, read_store,
@@ -15,7 +17,7 @@ use units::{Bytes, Form, Words};
 
 // What a line says; of a look at the store, the first word and how many. The words of a packet, an ID and a plaque's bytes stand in the
 // buffers that were lent.
-#[derive(Drop)]
+#[derive(Clone, Copy)]
 pub enum Heard {
     Passed,
     Unreadable,
@@ -47,20 +49,15 @@ pub const LONGEST_ID: Bytes = Bytes(16);
 
 pub const LONGEST_PLAQUE: Bytes = Bytes(2047);
 
-// The last word that a look may start with, and the most that it shows.
-pub const LAST_WORD: u32 = Words::STORE.0 as u32 - 1;
-
-pub const MOST_SHOWN: u32 = 128;
-
 // The longest line that is looked into.
 pub const LONGEST_LINE: usize = 4400;
 
 // Puts the words, the ID and the bytes to the front of the buffers, as much as they have room for; the rest of them stays.
 pub fn read_line(line: &[u8], words: &mut [u16], id: &mut [u8], bytes: &mut [u8]) -> Heard
     ensures value { result ≡ heard_of (spoken line.now) }
-    ensures words_after { words.new ≡ sets words.old 0 (in_buffers (spoken line.now)).words }
-    ensures id_after { id.new ≡ sets id.old 0 (in_buffers (spoken line.now)).id }
-    ensures bytes_after { bytes.new ≡ sets bytes.old 0 (in_buffers (spoken line.now)).bytes }
+    ensures words_after { words.new ≡ sets words.old 0 (words_in (spoken line.now)) }
+    ensures id_after { id.new ≡ sets id.old 0 (id_in (spoken line.now)) }
+    ensures bytes_after { bytes.new ≡ sets bytes.old 0 (bytes_in (spoken line.now)) }
 {
     if LONGEST_LINE < line.len() {
         return Heard::Unreadable;

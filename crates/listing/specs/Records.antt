@@ -6,7 +6,6 @@ use Rattle.units.specs.Word.{word}
 use Rattle.units.specs.Packing.{packed}
 use Rattle.units.specs.declared.stamp.Stamp.{Stamp}
 use Rattle.meaning.specs.Bench.{Bench, is_reader}
-use Rattle.meaning.specs.Packet.{longest_packet}
 
 -- two bytes as one number: "most significant byte (MSB) first"
 abbrev pub two : List ℕ → ℕ → ℕ
@@ -54,4 +53,4 @@ abbrev pub command_size : List ℕ → ℕ
 command_size bs = 5 + 2 * command_length bs
 
 unfoldable pub command_whole : List ℕ → Bool
-command_whole bs = leb 7 (length bs) && within 6 longest_packet (command_length bs) && leb (command_size bs) (length bs)
+command_whole bs = leb 7 (length bs) && within 6 134 (command_length bs) && leb (command_size bs) (length bs)

@@ -1,5 +1,7 @@
 // The lines of a listing. The caller sees to the room.
-ghost use Rattle.std.specs.Prelude.{◌+◌, ◌≤◌, length};
+#![tactic(auto)]
+
+ghost use Rattle.std.specs.Prelude.{◌≡◌, ◌+◌, ◌≤◌, length};
 ghost use Rattle.text.specs.Text.{Put};
 ghost use Rattle.listing.specs.Lines.{number_line, commands_line, refused_line, broken_line};
 

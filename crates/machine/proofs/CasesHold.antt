@@ -3,14 +3,15 @@
 use Rattle.units.proofs.Common.{◌≡◌, refl, [], ℕ}
 use Rattle.meaning.proofs.Terms.{unheld}
 use Rattle.meaning.proofs.Opened.{response_read, gateway}
-use Rattle.state.specs.State.{emptied_node, reset_node, report_of}
+use Rattle.state.specs.State.{emptied_node, reset_node}
 use Rattle.machine.specs.Layout.{laid, all_laid, store_of, cuts, past}
 use Rattle.machine.specs.Machine.{nodes_in, field_of, mode_of, region_of, reader_of, seen, nodes_of, readers_of, meaning}
+use Rattle.state.specs.Reports.{report_of}
 use Rattle.machine.specs.Consistent.{in_layout, formed, charges_of, bounded, listed, lists_ok, node_ok, plaque_ok, reading_ok, report_ok}
 use Rattle.machine.specs.Consistent.{reader_ok, name_ok, arrays, consistent, lengths, lent, unfit}
-use Rattle.machine.specs.CasesOfStates.{state_cases, lent_cases, answer_cases, gap_cases, order_cases, sharing_cases, tail_cases}
-use Rattle.machine.specs.CasesOfStates.{count_cases, bound_cases, end_cases, node_cases, plaque_cases, reading_cases, report_cases}
-use Rattle.machine.specs.CasesOfStates.{name_cases, array_cases}
+use Rattle.machine.specs.CasesOfStates.{lent_cases, answer_cases, gap_cases, order_cases, sharing_cases, tail_cases, count_cases, bound_cases}
+use Rattle.machine.specs.CasesOfStates.{end_cases, node_cases, plaque_cases, reading_cases, report_cases, name_cases, array_cases}
+use Rattle.machine.specs.CasesOfStates.{state_cases}
 use Rattle.machine.specs.CasesOfMachines.{flat, in_field, in_report, in_mode, machine_cases, nodes_are, by_node, value_cases, layout_cases}
 
 -- what the rows compute with: to name one of these on a line of `unfolding` opens all that its own line names

@@ -20,7 +20,7 @@ use Rattle.state.specs.declared.node.Node.{Node}
 -- regions of readers 1 to n, each all of its node's number
 abbrev pub regions : ℕ → List ℕ
 regions zero = []
-regions (suc n) = regions n ++ replicate full.region (suc n)
+regions (suc n) = regions n ++ replicate 1024 (suc n)
 
 abbrev pub id_a : List ℕ
 id_a = bytes "E0040100002E16AD"

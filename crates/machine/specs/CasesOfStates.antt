@@ -4,7 +4,7 @@
 -- Assumes nothing.
 use Rattle.std.specs.Prelude.{ℕ, zero, suc, ◌+◌, ◌-◌, Bool, true, false, List, [], ◌∷◌, ◌++◌, eqb, length, take, set, replicate}
 use Rattle.units.specs.declared.Words.{Words}
-use Rattle.meaning.specs.Bench.{full, memory_size}
+use Rattle.meaning.specs.Bench.{full}
 use Rattle.meaning.specs.Cases.{Case, ◌says◌, hex, bytes}
 use Rattle.state.specs.State.{fresh_node, fresh_reader, fresh_state, no_plaque, no_report, nothing, off}
 use Rattle.machine.specs.Machine.{Machine, machine}
@@ -22,10 +22,10 @@ abbrev pub lent : ℕ → ℕ → Machine
 lent words room = machine fresh_state (replicate words 0) (replicate room 0)
 
 abbrev pub fresh : Machine
-fresh = lent full.store (memory_size full)
+fresh = lent 4096 16384
 
 abbrev pub stated : State → Machine
-stated s = machine s fresh.store fresh.memory
+stated s = machine s (replicate 4096 0) (replicate 16384 0)
 
 -- its name: a length, and the bytes that it has place for
 abbrev pub called : ℕ → List ℕ → Machine
@@ -74,7 +74,7 @@ holding i k words m = noded i (having k) words m
 
 -- a store that begins with these words
 abbrev pub filled : List ℕ → Machine
-filled ws = machine fresh_state (ws ++ replicate (full.store - length ws) 0) fresh.memory
+filled ws = machine fresh_state (ws ++ replicate (4096 - length ws) 0) (replicate 16384 0)
 
 -- so many answers of a slot's node alone, from the front
 abbrev pub only : ℕ → ℕ → List ℕ → Machine
@@ -135,16 +135,16 @@ reported size there i c = record {
 -- ---- "1: store or plaque memory of another length"
 unfoldable pub lent_cases : List Case
 lent_cases =
-    "a fresh state, 4,096 words and 16,384 bytes" says lent 4096 16384 gives 0
-    ∷ "4,095 words" says lent 4095 (memory_size full) gives 1
-    ∷ "4,097 words" says lent 4097 (memory_size full) gives 1
-    ∷ "16,383 bytes" says lent full.store 16383 gives 1
-    ∷ "16,385 bytes" says lent full.store 16385 gives 1
-    ∷ "no words" says lent 0 (memory_size full) gives 1
-    ∷ "no bytes" says lent full.store 0 gives 1
-    ∷ "1 before 2, by the words" says machine (numbered 0 0).state (replicate 4095 0) fresh.memory gives 1
-    ∷ "1 before 2, by the bytes" says machine (numbered 0 0).state fresh.store (replicate 16385 0) gives 1
-    ∷ "bytes in no plaque may be any" says machine fresh_state fresh.store (replicate (memory_size full) 0xFF) gives 0
+    "a fresh state, 4,096 words and 16,384 bytes" says fresh gives 0
+    ∷ "4,095 words" says lent 4095 16384 gives 1
+    ∷ "4,097 words" says lent 4097 16384 gives 1
+    ∷ "16,383 bytes" says lent 4096 16383 gives 1
+    ∷ "16,385 bytes" says lent 4096 16385 gives 1
+    ∷ "no words" says lent 0 16384 gives 1
+    ∷ "no bytes" says lent 4096 0 gives 1
+    ∷ "1 before 2, by the words" says machine (numbered 0 0).state (replicate 4095 0) (replicate 16384 0) gives 1
+    ∷ "1 before 2, by the bytes" says machine (numbered 0 0).state (replicate 4096 0) (replicate 16385 0) gives 1
+    ∷ "bytes in no plaque may be any" says machine fresh_state (replicate 4096 0) (replicate 16384 0xFF) gives 0
     ∷ []
 
 -- ---- "every pending answer a well-formed register-form response of its node inside the store"
@@ -235,7 +235,7 @@ unfoldable pub tail_cases : List Case
 tail_cases =
     "E8-4 a fresh state, store word 0 is 1" says filled (1 ∷ []) gives 2
     ∷ "E8-4 a fresh state, store word 4,095 is 1" says filled (replicate 4095 0 ++ (1 ∷ [])) gives 2
-    ∷ "E8-4 a fresh state, and every word 0xFFFF" says machine fresh_state (replicate full.store 0xFFFF) fresh.memory gives 2
+    ∷ "E8-4 a fresh state, and every word 0xFFFF" says machine fresh_state (replicate 4096 0xFFFF) (replicate 16384 0) gives 2
     ∷ "E8-1 a word right behind the last answer" says eight_and_six (answer 1 2 ++ found 2 ++ (1 ∷ [])) gives 2
     ∷ "E8-1 a word a gap behind the last answer" says eight_and_six (answer 1 2 ++ found 2 ++ (0 ∷ 0xFFFF ∷ [])) gives 2
     ∷ "E8-1 the store's last word" says eight_and_six (answer 1 2 ++ found 2 ++ replicate 4081 0 ++ (1 ∷ [])) gives 2
@@ -299,7 +299,7 @@ brim k w ws =
       nodes = replicate 14 (having 1) ++ (having 6 ∷ having 5 ∷ having k ∷ []);
       held = replicate 14 (amount 134) ++ (amount 804 ∷ amount 612 ∷ amount w ∷ []);
     })
-    (shares 14 ++ six 15 ++ four 16 ++ answer 16 70 ++ ws) fresh.memory
+    (shares 14 ++ six 15 ++ four 16 ++ answer 16 70 ++ ws) (replicate 16384 0)
 
 -- an answer that the store's end cuts short makes the charges more than 4,096, so it breaks that bound as well
 unfoldable pub end_cases : List Case

@@ -17,7 +17,8 @@ use Rattle.state.specs.declared.Name.{Name}
 use Rattle.state.specs.declared.State.{State}
 
 -- ---- request E8, "Refusals: 2 also for a state or store that breaks this layout": all nodes' answers, node by node, oldest first, and
--- then zeros, are the store. So no answer reaches past its end, and no two share a word
+-- then
+-- zeros, are the store. So no answer reaches past its end, and no two share a word
 unfoldable pub in_layout : List ℕ → List M.Node → Bool
 in_layout store ms = same store (store_of (length store) ms)
 

@@ -5,7 +5,8 @@ use Rattle.std.proofs.Math.Seq.{slice}
 use Rattle.meaning.specs.Bench.{Bench, hub, is_reader, is_node}
 use Rattle.meaning.specs.Gateway as M
 use Rattle.meaning.specs.Gateway.{Gateway, Field, empty, plaque, Mode, off, on}
-use Rattle.state.specs.State.{fresh_reader, report_of}
+use Rattle.state.specs.State.{fresh_reader}
+use Rattle.state.specs.Reports.{report_of}
 use Rattle.machine.specs.Layout.{cuts, past}
 use Rattle.state.specs.declared.reader as R
 use Rattle.state.specs.declared.node.Node.{Node}

@@ -13,7 +13,7 @@ unfoldable pub use Rattle.meaning.specs.Gateway.{swept, fresh, put, taken, empti
 pub use Rattle.meaning.specs.Gateway.{Gateway, set_reader, Node, join, clearing, plaque, resetting, Reader, empty, on, set_node, Sweep}
 pub use Rattle.meaning.specs.Gateway.{none, Mode, Field, sweep, last, never, off, set_mode, set_field}
 unfoldable pub use Rattle.meaning.specs.Packet.{written_output, written_count}
-pub use Rattle.meaning.specs.Packet.{word_no, overall, longest_packet}
+pub use Rattle.meaning.specs.Packet.{word_no, overall}
 unfoldable pub use Rattle.meaning.specs.Refusal.{refusal}
 pub use Rattle.meaning.specs.Refusal.{◌when◌, ◌or_else◌, Doubts}
 unfoldable pub use Rattle.meaning.specs.Response.{well_formed, shown, bears, response_body, response_doubts, read_response, amount_wrong}

@@ -26,7 +26,7 @@ field_cases =
     ("000A AA07 0002 0313 0A0B 2408 BBBB BBBB BBBB BBBB" ∷ [])
     ∷ "F-9: arrival writes the first bytes only" says front (arrive 2 id_a (bytes "010203") ∷ arrive 2 id_b (bytes "09") ∷ []) "09020307"
     ∷ "F-9: what is behind cannot be read" says ends 12 (four ∷ arrive 2 id_b (bytes "09") ∷ []) (cmd (reads 2 0 2))
-    ∷ "F-9: in its reader's region" says every (λ n. same (memory n (four ∷ [])) (replicate full.region 7)) (1 ∷ 3 ∷ 16 ∷ [])
+    ∷ "F-9: in its reader's region" says every (λ n. same (memory n (four ∷ [])) (replicate 1024 7)) (1 ∷ 3 ∷ 16 ∷ [])
     ∷ "arrival makes no answer" says eqb (pending 2 (four ∷ [])) 0
     ∷ "14: no plaque to leave" says ends 14 [] (leave 2)
     ∷ "14: nor once more" says ends 14 (four ∷ leave 2 ∷ []) (leave 2)

@@ -1,4 +1,6 @@
 // Words moved: copied from elsewhere, moved up or down within their slice, and made 0. Nothing here knows what they mean.
+#![tactic(auto)]
+
 ghost use Rattle.std.specs.Prelude.{◌≡◌, ◌+◌, ◌-◌, ◌≤◌, length, take, drop, replicate};
 ghost use Rattle.std.proofs.lemmas.List.Edits.{sets};
 ghost use Rattle.moves.specs.Moved.{inserted, removed};

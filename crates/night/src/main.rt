@@ -1,16 +1,18 @@
 // Plays run files, and writes their listings to standard output: each file that is named, with `-` for standard input, or standard input
 // where none is. A file that cannot be read is said on standard error and has no listing; where a listing cannot be written, that is said
 // there too, and nothing more is played.
+#![tactic(auto)]
+
 ghost use Rattle.std.specs.Prelude.{◌<◌, ◌≤◌, length};
 
 use libc::{STDERR_FILENO, STDIN_FILENO};
-use nightrun::{LONGEST_LISTING, list};
+use nightrun::{LONGEST_LISTING, Listed, list};
+use plaques::copy_bytes;
 use streams::{Got, put, take};
-use text::{Output, put_text};
 
 // The results from here on say whether the listing could be written.
 fn write_into(file: &[u8], out: &mut [u8]) -> bool {
-    let Output::Written(n) = list(file, out) else {
+    let Listed::Written(n) = list(file, out) else {
         return false;
     };
     put(&out[..n]) == n
@@ -29,9 +31,11 @@ fn add(file: &mut [u8], n: usize, bytes: &[u8]) -> usize
 {
     let room = file.len() - n;
     if bytes.len() <= room {
-        return put_text(file, n, bytes);
+        copy_bytes(bytes, file, n);
+        return n + bytes.len();
     }
-    put_text(file, n, &bytes[..room])
+    copy_bytes(&bytes[..room], file, n);
+    n + room
 }
 
 // Reads a file's bytes, as many as there is room for.

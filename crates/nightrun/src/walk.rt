@@ -9,13 +9,11 @@ use asking::{hub_turn, reader_turn};
 use hearing::hear;
 use hearing::opening::Walk;
 use listingout::{put_broken, put_refused};
-use runfile::cursor::command_of;
-use runfile::{CommandRecord, rest_of};
+use runfile::{CommandRecord, read_command};
 use state::State;
 use units::{HUB, Words};
 
-// The commands, a line each, read in a view of the file that moves: it begins where the next record does. The state is a local of this
-// loop: what a command may change is taken out of it, and put back.
+// The commands, a line each. The state is a local of this loop: what a command may change is taken out of it, and put back.
 pub fn play(
     file: &[u8],
     begun: Walk,
@@ -32,16 +30,15 @@ pub fn play(
 {
     let mut packet = [0u16; Words::PACKET.0 as usize];
     let mut s = opened;
-    let mut rest = rest_of(file, begun.at);
+    let mut at = begun.at;
     let mut left = begun.left;
     let mut to = start;
     while 0 < left {
-        let CommandRecord::Command(size) = command_of(rest) else {
+        let CommandRecord::Command(size) = read_command(file, at) else {
             return put_broken(out, to);
         };
-        let h = hear(rest, size, &mut packet);
-        let skip = 5 + size.bytes().0 as usize;
-        rest = &rest[skip..];
+        let h = hear(file, at, size, &mut packet);
+        at = at + 5 + size.bytes().0 as usize;
         left -= 1;
         if h.refusal != 0 {
             to = put_refused(out, to, h.refusal);
@@ -78,7 +75,7 @@ pub fn play(
         s.readers[i] = reader;
         to = r.at;
     }
-    if rest.len() != 0 {
+    if at != file.len() {
         return put_broken(out, to);
     }
     to

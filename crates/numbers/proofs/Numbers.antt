@@ -8,53 +8,61 @@ use Rattle.dialog.specs.Fields.{is_digit, decimal_from, value_of, number_ok}
 use Rattle.dialog.specs.Spoken.{numbers_ok, a_stamp, field, number, stamp_from}
 use Rattle.dialog.proofs.FieldLaws.{both, nowise, and_end, in-range, is_within, ten_times, ten_digits, of_number}
 use Rattle.dialog.proofs.SpokenLaws.{numbers_enough, one_number, no_number, stamp_numbers}
+use Rattle.numbers.specs.declared.Number.{Number}
 use Rattle.numbers.specs.declared.NumberRead.{NumberRead}
 use Rattle.numbers.specs.declared.NodeRead.{NodeRead}
 use Rattle.numbers.specs.declared.StampRead.{StampRead}
 use Rattle.fields.specs.FieldsAt.{fields_from, FieldAt}
-use Rattle.numbers.specs.NumbersAt.{number_at, node_at, stamp_at}
+use Rattle.numbers.specs.NumbersAt.{number_in, number_at, node_at, stamp_at}
 use Rattle.fields.proofs.Places.{from_past, none_left, one_more, at_other, after_field, after_past, after_rest}
 
 -- ---- a field
 module _ (most : ℕ) where
-  few_in : (f : List ℕ) → cond (number_ok most f) (value_of f) 0 ≤ most
-  few_in f = if-number (number_ok most f) refl
+  few_in : (f : List ℕ) → (number_in most f).value ≤ most
+  unfolding number_in
+  few_in f = go (number_ok most f) refl
     where
-      if-number : (t : Bool) → number_ok most f ≡ t → cond t (value_of f) 0 ≤ most
-      if-number true e = (of_number most f e).few
-      if-number false e = omega arith
+      go : (t : Bool) → number_ok most f ≡ t → cond t (value_of f) 0 ≤ most
+      go true e = (of_number most f e).few
+      go false e = omega arith
 
-  first_number : (fs : List (List ℕ)) → number_ok most (field fs 0) ≡ numbers_ok (most ∷ []) fs
-  unfolding number_ok
-  first_number [] = sym (no_number most)
+  -- no field is an empty field
+  empty_in : number_in most [] ≡ record { ok = false; value = 0 }
+  unfolding number_in number_ok
+  empty_in = refl
+
+  first_number : (fs : List (List ℕ)) → (number_in most (field fs 0)).ok ≡ numbers_ok (most ∷ []) fs
+  unfolding number_in
+  first_number [] = ap (λ (n : Number). n.ok) empty_in ∙ sym (no_number most)
   first_number (f ∷ fs) = sym (one_number most f fs)
 
 -- ---- the field at a place, read byte by byte: what one says of which n digits, that make v, were read, and f is left
-unfoldable pub judged : ℕ → ℕ → ℕ → List ℕ → ℕ → NumberRead
-judged most n v f next =
+unfoldable pub judged : ℕ → ℕ → ℕ → List ℕ → Number
+judged most n v f =
     let ok = within 1 10 (n + length f) && every is_digit f && leb (decimal_from v f) most in
-    record { ok = ok; value = cond ok (decimal_from v f) 0; next = next }
+    record { ok = ok; value = cond ok (decimal_from v f) 0 }
 
-module _ (most n v next : ℕ) where
-  judged_more : (c : ℕ) (f : List ℕ) → is_digit c ≡ true → judged most n v (c ∷ f) next ≡ judged most (n + 1) (v * 10 + (c - 48)) f next
+module _ (most n v : ℕ) where
+  judged_more : (c : ℕ) (f : List ℕ) → is_digit c ≡ true → judged most n v (c ∷ f) ≡ judged most (n + 1) (v * 10 + (c - 48)) f
   unfolding judged every decimal_from
   judged_more c f y = let z : n + suc (length f) ≡ n + 1 + length f = omega arith in rw (z, y)
 
-  judged_bad : (c : ℕ) (f : List ℕ) → (ltb n 10 && is_digit c) ≡ false
-      → judged most n v (c ∷ f) next ≡ record { ok = false; value = 0; next = next }
+  judged_bad : (c : ℕ) (f : List ℕ) → (ltb n 10 && is_digit c) ≡ false → judged most n v (c ∷ f) ≡ record { ok = false; value = 0 }
   unfolding judged every
   judged_bad c f b =
-      let no : (judged most n v (c ∷ f) next).ok ≡ false = nowise _ (λ e.
+      let no : (judged most n v (c ∷ f)).ok ≡ false = nowise _ (λ e.
       let p = and_true (within 1 10 (n + length (c ∷ f)) && every is_digit (c ∷ f)) (leb (decimal_from v (c ∷ f)) most) e in
       let q = and_true (within 1 10 (n + length (c ∷ f))) (every is_digit (c ∷ f)) p.0 in
       let w = in-range 1 10 (n + length (c ∷ f)) q.0 in
       true≢false (sym (both (lt-ltb n 10 (omega arith)) (and_true (is_digit c) (every is_digit f) q.1).0) ∙ b)) in
       rw no
 
-  judged_end : n ≤ 10
-      → judged most n v [] next ≡ record { ok = leb 1 n && leb v most; value = cond (leb 1 n && leb v most) v 0; next = next }
+  judged_end : n ≤ 10 → judged most n v [] ≡ record { ok = leb 1 n && leb v most; value = cond (leb 1 n && leb v most) v 0 }
   unfolding judged every decimal_from
   judged_end h = let z : n + 0 ≡ n = omega arith in rw (z, le-leb n 10 h, and_end (leb 1 n), and_end (leb 1 n))
+
+abbrev pub said : Number → ℕ → NumberRead
+said n p = record { ok = n.ok; value = n.value; next = p }
 
 -- the digits so far make v, which fits 64 bits after ten of them; wherever the field ends, it says what they and the rest say
 pub record SoFar (line : List ℕ) (most at end v : ℕ) : Type 0 where
@@ -62,7 +70,7 @@ pub record SoFar (line : List ℕ) (most at end v : ℕ) : Type 0 where
   pub inside : end ≤ length line
   pub short : end - at ≤ 10
   pub small : v < 10 ^ (end - at)
-  pub rest : (r : ℕ) → FieldAt line end r → number_at most line at ≡ judged most (end - at) v (take (r - end) (drop end line)) (r + 1)
+  pub rest : (r : ℕ) → FieldAt line end r → number_at most line at ≡ said (judged most (end - at) v (take (r - end) (drop end line))) (r + 1)
 
 module _ {line : List ℕ} {most at end v : ℕ} (s : SoFar line most at end v) where
   pub fits : (ltb (end - at) 10 && is_digit (get_or line end 0)) ≡ true
@@ -74,7 +82,7 @@ module _ {line : List ℕ} {most at end v : ℕ} (s : SoFar line most at end v) 
 
   -- the field goes on, with a digit ..
   turn : (r : ℕ) → (end < length line) × (get_or line end 0 ≡ 32 → ⊥) → FieldAt line (end + 1) r
-      → number_at most line at ≡ judged most (end - at) v (get_or line end 0 ∷ take (r - (end + 1)) (drop (end + 1) line)) (r + 1)
+      → number_at most line at ≡ said (judged most (end - at) v (get_or line end 0 ∷ take (r - (end + 1)) (drop (end + 1) line))) (r + 1)
   turn r g f = s.rest r (at_other line end r g.0 g.1 f) ∙ rw (one_more line end r g.0 f.least)
 
   pub so_more : (end < length line) × (get_or line end 0 ≡ 32 → ⊥) → (ltb (end - at) 10 && is_digit (get_or line end 0)) ≡ true
@@ -86,13 +94,13 @@ module _ {line : List ℕ} {most at end v : ℕ} (s : SoFar line most at end v) 
         inside = omega arith;
         short = omega arith;
         small = rw z (ten_times v _ (end - at) s.small (omega arith));
-        rest = λ r f. turn r g f ∙ rw (z, judged_more most (end - at) v (r + 1) (get_or line end 0) _ (is_within 48 57 _ w.1 w.2));
+        rest = λ r f. turn r g f ∙ rw (z, judged_more most (end - at) v (get_or line end 0) _ (is_within 48 57 _ w.1 w.2));
       }
 
   -- .. or with a byte that is none, or with one too many
   pub bad_at : (r : ℕ) → (end < length line) × (get_or line end 0 ≡ 32 → ⊥) → (ltb (end - at) 10 && is_digit (get_or line end 0)) ≡ false
       → FieldAt line (end + 1) r → record { ok = false; value = 0; next = r + 1 } ≡ number_at most line at
-  bad_at r g b f = sym (turn r g f ∙ rw (judged_bad most (end - at) v (r + 1) (get_or line end 0) _ b))
+  bad_at r g b f = sym (turn r g f ∙ rw (judged_bad most (end - at) v (get_or line end 0) _ b))
 
   -- it ends
   pub limit : (leb 1 (end - at) && leb v most) ≡ true → v ≤ most
@@ -100,15 +108,15 @@ module _ {line : List ℕ} {most at end v : ℕ} (s : SoFar line most at end v) 
 
   pub end_at : (t : Bool) → (leb 1 (end - at) && leb v most) ≡ t → FieldAt line end end
       → record { ok = t; value = cond t v 0; next = end + 1 } ≡ number_at most line at
-  end_at t e f = sym (s.rest end f ∙ rw (none_left line end (drop end line), judged_end most (end - at) v (end + 1) s.short, e))
+  end_at t e f = sym (s.rest end f ∙ rw (none_left line end (drop end line), judged_end most (end - at) v s.short, e))
 
 module _ (line : List ℕ) where
   pub past_at : (most at : ℕ) → length line < at → record { ok = false; value = 0; next = at } ≡ number_at most line at
-  unfolding number_at number_ok
-  past_at most at h = rw (from_past line at h, after_past line at h)
+  unfolding number_at
+  past_at most at h = rw (from_past line at h, empty_in most, after_past line at h)
 
   pub so_none : (most at : ℕ) → at ≤ length line → SoFar line most at at 0
-  unfolding number_at number_ok judged
+  unfolding number_at number_in number_ok judged
   so_none most at h =
       let z : at - at ≡ 0 = omega arith in record {
         least = omega arith;
@@ -124,7 +132,7 @@ module _ (line : List ℕ) where
   number_ok_lem most at = first_number most (fields_from line at)
 
   number_value : (most at : ℕ) → (number_at most line at).ok ≡ true → (number_at most line at).value ≡ number (fields_from line at) 0
-  unfolding number_at
+  unfolding number_at number_in
   number_value most at e = yes_cond 0 e
 
   number_rest : (most at : ℕ) → fields_from line (number_at most line at).next ≡ drop 1 (fields_from line at)

@@ -1,4 +1,6 @@
 // Numbers, nodes and stamps, one field after another.
+#![tactic(auto)]
+
 ghost use Rattle.std.specs.Prelude.{◌≡◌, false, ◌&&◌, ◌+◌, ◌-◌, ◌*◌, ◌<◌, ◌≤◌};
 ghost use Rattle.units.specs.Count.{within};
 ghost use Rattle.numbers.specs.NumbersAt.{number_at, node_at, stamp_at};
@@ -6,23 +8,29 @@ ghost use Rattle.numbers.specs.NumbersAt.{number_at, node_at, stamp_at};
 use fields::{field_end, goes_on};
 use units::stamp::Stamp;
 
-// Whether the field at a place of the line is a number within its limit, and which; and the place of the field after it, past the line's
-// end where there is none.
-#[derive(Drop)]
+// Whether a field is a number within its limit, and which: what the definitions say of a field by itself.
+#[derive(Clone, Copy)]
+pub struct Number {
+    pub ok: bool,
+    pub value: u32,
+}
+
+// The same of the field at a place of the line, and the place of the field after it, past the line's end where there is none.
+#[derive(Clone, Copy)]
 pub struct NumberRead {
     pub ok: bool,
     pub value: u32,
     pub next: usize,
 }
 
-#[derive(Drop)]
+#[derive(Clone, Copy)]
 pub struct NodeRead {
     pub ok: bool,
     pub node: u8,
     pub next: usize,
 }
 
-#[derive(Drop)]
+#[derive(Clone, Copy)]
 pub struct StampRead {
     pub ok: bool,
     pub stamp: Stamp,

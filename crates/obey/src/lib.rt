@@ -1,4 +1,6 @@
 // A command and a field check, on a machine that is known to be consistent: its own node's parts are taken out of the state, and put back.
+#![tactic(auto)]
+
 pub mod check;
 
 ghost use Rattle.std.specs.Prelude.{◌<◌, ◌≡◌, set};

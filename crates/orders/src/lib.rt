@@ -1,6 +1,8 @@
 // An accepted command for a reader, decided on its own record and its region alone. Nothing is changed here but the lent answer; room is
 // judged, and the change made, where the call is settled.
-ghost use Rattle.std.specs.Prelude.{◌≡◌, true, length};
+#![tactic(auto)]
+
+ghost use Rattle.std.specs.Prelude.{◌≡◌, true, false, length};
 ghost use Rattle.meaning.specs.Bench.{full};
 ghost use Rattle.meaning.specs.declared.table.OnPlaque.TheVariants.{Fill, Read, Write};
 ghost use Rattle.meaning.specs.declared.table.Kind.TheVariants as K;

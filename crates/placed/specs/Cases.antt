@@ -4,7 +4,7 @@
 -- Assumes nothing.
 use Rattle.std.specs.Prelude.{ℕ, ◌+◌, ◌-◌, Bool, ◌&&◌, List, [], ◌∷◌, ◌++◌, eqb, length, take, set, replicate}
 use Rattle.std.proofs.Math.Seq.{paste}
-use Rattle.meaning.specs.Bench.{full, memory_size}
+use Rattle.meaning.specs.Bench.{full}
 use Rattle.meaning.specs.Call.{same}
 use Rattle.meaning.specs.Cases.{Case, ◌says◌, hex}
 use Rattle.meaning.specs.Gateway as M
@@ -24,10 +24,10 @@ abbrev pub lent : ℕ → ℕ → Machine
 lent words room = machine fresh_state (replicate words 0) (replicate room 0)
 
 abbrev pub fresh : Machine
-fresh = lent full.store (memory_size full)
+fresh = lent 4096 16384
 
 abbrev pub stated : State → Machine
-stated s = machine s fresh.store fresh.memory
+stated s = machine s (replicate 4096 0) (replicate 16384 0)
 
 -- its name: a length, and the bytes that it has place for
 abbrev pub called : ℕ → List ℕ → Machine
@@ -76,7 +76,7 @@ six n = longest n ++ five n
 
 -- a store that begins with these words
 abbrev pub filled : List ℕ → Machine
-filled ws = machine fresh_state (ws ++ replicate (full.store - length ws) 0) fresh.memory
+filled ws = machine fresh_state (ws ++ replicate (4096 - length ws) 0) (replicate 16384 0)
 
 -- three nodes, by their slots, the last one's number too: two hold 804 words, the third 536 and an answer more, with so many words of data
 abbrev pub crowd : ℕ → ℕ → ℕ → ℕ → ℕ → Machine
@@ -87,17 +87,17 @@ crowd i j k n words =
 -- ---- "1: store or plaque memory of another length"
 unfoldable pub lent_cases : List Case
 lent_cases =
-    "a fresh state, 4,096 words and 16,384 bytes" says lent 4096 16384 gives 0
-    ∷ "4,095 words" says lent 4095 (memory_size full) gives 1
-    ∷ "4,097 words" says lent 4097 (memory_size full) gives 1
-    ∷ "16,383 bytes" says lent full.store 16383 gives 1
-    ∷ "16,385 bytes" says lent full.store 16385 gives 1
-    ∷ "no words" says lent 0 (memory_size full) gives 1
-    ∷ "no bytes" says lent full.store 0 gives 1
-    ∷ "1 before 2, by the words" says machine (numbered 0 0).state (replicate 4095 0) fresh.memory gives 1
-    ∷ "1 before 2, by the bytes" says machine (numbered 0 0).state fresh.store (replicate 16385 0) gives 1
-    ∷ "words in no answer may be any" says machine fresh_state (replicate full.store 0xFFFF) fresh.memory gives 0
-    ∷ "bytes in no plaque may be any" says machine fresh_state fresh.store (replicate (memory_size full) 0xFF) gives 0
+    "a fresh state, 4,096 words and 16,384 bytes" says fresh gives 0
+    ∷ "4,095 words" says lent 4095 16384 gives 1
+    ∷ "4,097 words" says lent 4097 16384 gives 1
+    ∷ "16,383 bytes" says lent 4096 16383 gives 1
+    ∷ "16,385 bytes" says lent 4096 16385 gives 1
+    ∷ "no words" says lent 0 16384 gives 1
+    ∷ "no bytes" says lent 4096 0 gives 1
+    ∷ "1 before 2, by the words" says machine (numbered 0 0).state (replicate 4095 0) (replicate 16384 0) gives 1
+    ∷ "1 before 2, by the bytes" says machine (numbered 0 0).state (replicate 4096 0) (replicate 16385 0) gives 1
+    ∷ "words in no answer may be any" says machine fresh_state (replicate 4096 0xFFFF) (replicate 16384 0) gives 0
+    ∷ "bytes in no plaque may be any" says machine fresh_state (replicate 4096 0) (replicate 16384 0xFF) gives 0
     ∷ []
 
 -- ---- "every pending answer a well-formed register-form response of its node inside the store"
@@ -126,10 +126,10 @@ answer_cases =
     ∷ "the same with 4, behind an answer that it accepts" says listed 7 2 100 12 (laid 100 (found 8) fresh) gives 2
     ∷ "an answer that ends with the store" says alone 7 4090 (found 8) fresh gives 0
     ∷ "an answer that would end a word behind the store" says
-    listed 7 1 4091 6 (machine fresh_state (replicate 4091 0 ++ take 5 (found 8)) fresh.memory) gives 2
+    listed 7 1 4091 6 (machine fresh_state (replicate 4091 0 ++ take 5 (found 8)) (replicate 16384 0)) gives 2
     ∷ "an answer that would begin behind the store" says listed 7 1 4096 0 fresh gives 2
     ∷ "a second answer that would end a word behind the store" says
-    listed 16 2 4085 12 (machine fresh_state (replicate 4085 0 ++ found 32 ++ take 5 (found 32)) fresh.memory) gives 2
+    listed 16 2 4085 12 (machine fresh_state (replicate 4085 0 ++ found 32 ++ take 5 (found 32)) (replicate 16384 0)) gives 2
     ∷ []
 
 -- ---- "no two sharing a word". The last word of `touching` is the Overall Length of an answer that begins with it

@@ -1,5 +1,7 @@
 // The state as it was kept before the store had no gaps: each node's list has a place of its own, and its answers lie in the store from
 // there on. Converters read and write it; no call does.
+#![tactic(auto)]
+
 pub mod fine;
 
 ghost use Rattle.std.specs.Prelude.{◌≡◌};
@@ -16,14 +18,14 @@ use units::{Bytes, NODES, READERS, Words};
 
 // A node's answers lie in the store one behind the other: how many there are, where the oldest begins, and how many words they have
 // together. Where there are none, all is 0.
-#[derive(Drop)]
+#[derive(Clone, Copy)]
 pub struct Pending {
     pub count: usize,
     pub place: usize,
     pub words: Words,
 }
 
-#[derive(Drop)]
+#[derive(Clone, Copy)]
 pub struct Node {
     pub instance: u8,
     pub handover: u16,
@@ -31,7 +33,7 @@ pub struct Node {
 }
 
 // Readers are in node order; so are nodes, and the gateway's own is the last.
-#[derive(Drop)]
+#[derive(Clone, Copy)]
 pub struct State {
     pub name: Name,
     pub readers: [Reader; READERS],

@@ -1,4 +1,6 @@
 // Plaques that arrive and leave, on a machine that is known to be consistent.
+#![tactic(auto)]
+
 ghost use Rattle.std.specs.Prelude.{◌≡◌, true, List, ℕ, ◌+◌, ◌*◌, ◌≤◌, length};
 ghost use Rattle.std.proofs.Math.Seq.{paste};
 ghost use Rattle.meaning.specs.Bench.{full, is_reader};
@@ -18,7 +20,7 @@ use state::reader::Reader;
 use units::{Bytes, NODES, READERS, Words};
 
 // Copies all of src into dst from a place on.
-fn copy_bytes(src: &[u8], dst: &mut [u8], to: usize)
+pub fn copy_bytes(src: &[u8], dst: &mut [u8], to: usize)
     requires { to + length src.now ≤ length dst.old }
     ensures { dst.new ≡ paste dst.old to src.now (length src.now) }
 {

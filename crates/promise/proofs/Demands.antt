@@ -1,6 +1,6 @@
 -- Demand 3, and the counts of demand 2, of the code's own machines: "From a fresh state, over any calls with state and lent memory handed
--- back unaltered". What demands proves of the meaning's runs holds of every chain of calls from a fresh machine.
--- (Strike-out call by call is `struck-chain`.)
+-- back unaltered". What demands proves of the meaning's runs holds of every chain of calls from a fresh machine. (Strike-out call by
+-- call is `struck-chain`.)
 -- Assumes nothing.
 use Rattle.units.proofs.Common.{sym, ◌∙◌, ◌≡◌, ap, List, [], ◌∷◌, ℕ, ◌≤◌, ◌+◌, ◌<◌, suc, ◌*◌, zero, ◌%◌, ℕ_discrete, arith, length, drop}
 use Rattle.units.proofs.Common.{take, ne_eqb, no_cond}

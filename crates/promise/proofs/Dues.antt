@@ -1,5 +1,5 @@
--- An answer that is due: it joins its node's list where it has room, and where not the call is refused by 13. Once for all commands and the
--- field check, whatever the effect is on: the machine with it is given.
+-- An answer that is due: it joins its node's list where it has room, and where not the call is refused by 13. Once for all commands and
+-- the field check, whatever the effect is on: the machine with it is given.
 -- Assumes nothing.
 use Rattle.units.proofs.Common.{sym, ◌∙◌, ◌≡◌, refl, ap, true, false, List, ℕ, length}
 use Rattle.meaning.proofs.Terms.{Bench, is_node, well_formed, Gateway, join, charges, fits, refused, queued, Try, roomed, settled}

@@ -1,6 +1,6 @@
 -- The examples of specs/Examples hold; the checker computes them.
 -- Assumes nothing.
-use Rattle.units.proofs.Common.{sym, ◌∙◌, ◌≡◌, refl, ap, subst, true, Bool, cond, ◌&&◌, List, [], ◌∷◌, ◌++◌, map, ℕ, ◌+◌, leb, lit<}
+use Rattle.units.proofs.Common.{needs, sym, ◌∙◌, ◌≡◌, refl, ap, subst, true, Bool, cond, ◌&&◌, List, [], ◌∷◌, ◌++◌, map, ℕ, ◌+◌, leb, lit<}
 use Rattle.units.proofs.Common.{replicate, leb-true, yes_cond, and_true}
 use Rattle.units.specs.Count as Count
 use Rattle.units.specs.Stamp as Stamps
@@ -25,6 +25,7 @@ use Rattle.demands.specs.Demand as D
 use Rattle.demands.specs.Demand.{Line, log, kept, stays, struck, ours, Eased, Ease, Same, of_ours}
 use Rattle.demands.proofs.Alone.{strike_out}
 use Rattle.state.specs.State as States
+use Rattle.state.specs.Reports as Reports
 use Rattle.machine.proofs.Terms.{nothing, fresh_reader, emptied_node, Machine, machine, meaning, node_slot, nodes_in, region_of, unfit}
 use Rattle.machine.specs.Layout as L
 use Rattle.machine.specs.Machine as S
@@ -37,7 +38,7 @@ use Rattle.promise.specs.Obeyed.{is_refusal, expected, Obeyed}
 use Rattle.promise.specs.Runs.{Chain, calls, lines, zero_store, reached}
 use Rattle.promise.specs.Examples.{zero_memory, begun, visited, not_found, four_bytes, all_cleared, holding, relieved, silent, with_plaque}
 use Rattle.promise.specs.Examples.{with_not_found, with_both, with_other, with_four, with_none, visit, visit_alone, crowding, going_on}
-use Rattle.promise.specs.Examples.{going_on_said, crowd_start, crowd, Crowded, stored}
+use Rattle.promise.specs.Examples.{going_on_said, crowd_start, crowd, Crowded}
 use Rattle.promise.proofs.Parts.{parts, Means}
 use Rattle.promise.proofs.Promises.{saying, obeying}
 use Rattle.promise.proofs.Steps.{same_reader}
@@ -135,8 +136,8 @@ record Computed : Type 0 where
   acked_alone : OldestGone with_four with_none
   collected : (expected full (collect Framed 2 134) with_both).said ≡ answered (handed (0xFF02 ∷ four_bytes) 1)
   collected_alone : (expected full (collect Framed 2 134) with_four).said ≡ answered (handed (0xFF02 ∷ four_bytes) 1)
-  cleared : Clears with_other all_cleared (cmd clears) (visited relieved relieved (holding 6) (stored all_cleared))
-  cleared_alone : Clears with_none all_cleared (cmd clears) (visited relieved silent (holding 6) (stored all_cleared))
+  cleared : Clears with_other all_cleared (cmd clears) (visited relieved relieved (holding 6) (all_cleared ++ replicate 4090 0))
+  cleared_alone : Clears with_none all_cleared (cmd clears) (visited relieved silent (holding 6) (all_cleared ++ replicate 4090 0))
   visits : at_ease full 2 (fresh (region_of full zero_memory)) (calls visit) ≡ true
   struck_out : calls visit_alone ≡ struck full 2 (calls visit)
   crowds : at_ease full 1 crowd_start (crowding ++ going_on) ≡ true
@@ -154,33 +155,15 @@ unfolding Count.every Stamps.last_day Stamps.is_stamp Refusal.refusal Packet.cou
     Room.added Room.share_of Room.charge Room.total Room.charges Room.fits C.asked C.judged C.collecting C.acknowledging C.same C.repeats
     C.ranged C.answer C.tag_not_found C.tagged C.obeyed C.looked C.left C.command_in C.kind_in C.bytes_in C.at_reader C.named C.serves C.whom
     C.lifted C.heeded C.tried C.roomed C.settled C.step Cases.id_a L.laid L.all_laid L.store_of L.cuts L.past S.nodes_in S.field_of
-    States.report_of S.mode_of S.region_of S.reader_of S.seen S.nodes_of S.readers_of S.meaning Ok.in_layout Ok.formed Ok.charges_of Ok.bounded
+    Reports.report_of S.mode_of S.region_of S.reader_of S.seen S.nodes_of S.readers_of S.meaning Ok.in_layout Ok.formed Ok.charges_of Ok.bounded
     Ok.listed Ok.lists_ok Ok.node_ok Ok.plaque_ok Ok.reading_ok Ok.report_ok Ok.reader_ok
     Ok.name_ok Ok.arrays Ok.consistent Ok.lengths Ok.lent Ok.unfit M.onward M.emptied M.swept C.ruled C.governed C.at_hub C.from_desk
     States.emptied_node O.expected M.fresh M.taken C.arrived C.run D.kept D.spared D.stays D.struck D.line D.log at_ease_t at_ease visit
     visit_alone crowding going_on zero_store
 computed = record {
-  searched = record {
-    fits = refl;
-    node = refl;
-    steps = refl;
-    added = record { lists = refl; nodes = refl; rest = refl; long = refl };
-    kept = refl;
-  };
-  read = record {
-    fits = refl;
-    node = refl;
-    steps = refl;
-    added = record { lists = refl; nodes = refl; rest = refl; long = refl };
-    kept = refl;
-  };
-  read_alone = record {
-    fits = refl;
-    node = refl;
-    steps = refl;
-    added = record { lists = refl; nodes = refl; rest = refl; long = refl };
-    kept = refl;
-  };
+  searched = search needs;
+  read = search needs;
+  read_alone = search needs;
   both = refl;
   four = refl;
   acked = record { lists = refl; nodes = refl; rest = refl; long = refl };

@@ -31,7 +31,8 @@ use Rattle.demands.proofs.Local.{cond_all}
 use Rattle.demands.proofs.Aim.{Aim, aim}
 use Rattle.demands.proofs.Numbers.{never_nobody}
 use Rattle.machine.proofs.Terms.{fresh_reader, fresh_node, no_plaque, no_report, Machine, meaning, node_slot, reader_of, field_of, mode_of}
-use Rattle.machine.proofs.Terms.{report_of, region_of, node_at, counts, reader_ok, name_ok, unfit}
+use Rattle.machine.proofs.Terms.{report_of}
+use Rattle.machine.proofs.Terms.{region_of, node_at, counts, reader_ok, name_ok, unfit}
 use Rattle.state.specs.State.{off}
 use Rattle.state.specs.declared.reader.Reading.{Reading}
 use Rattle.state.specs.declared.reader.Reader.{Reader}

@@ -1,9 +1,9 @@
 -- Closed examples, so that nobody can say that the theorems speak of nothing: a chain of calls on machines that are written out, the same
 -- chain with another reader's calls struck out, and a run in which reader 1 stays at ease while other nodes stand at 804 words.
 -- Assumes nothing.
-use Rattle.std.specs.Prelude.{ℕ, ◌-◌, ◌≡◌, true, List, [], ◌∷◌, ◌++◌, length, replicate}
+use Rattle.std.specs.Prelude.{ℕ, ◌≡◌, true, List, [], ◌∷◌, ◌++◌, replicate}
 use Rattle.units.specs.declared.Form.TheVariants.{Register, Framed}
-use Rattle.meaning.specs.Bench.{full, memory_size}
+use Rattle.meaning.specs.Bench.{full}
 use Rattle.meaning.specs.Cases.{search, reads}
 use Rattle.meaning.specs.CasesOfCalls.{cmd, id_a, clears, gets_name}
 use Rattle.meaning.specs.Gateway.{Gateway, fresh}
@@ -17,11 +17,7 @@ use Rattle.promise.specs.Runs.{Exchange, Chain, calls, lines, zero_store, fresh_
 
 -- ---- the machines: lent is a plaque memory of zeros
 abbrev pub zero_memory : List ℕ
-zero_memory = replicate (memory_size full) 0
-
--- a store that begins with these words
-abbrev pub stored : List ℕ → List ℕ
-stored ws = ws ++ replicate (full.store - length ws) 0
+zero_memory = replicate 16384 0
 
 abbrev pub begun : Machine
 begun = fresh_machine zero_memory
@@ -38,7 +34,7 @@ visited two three hub words = machine
       nodes = fresh_node ∷ two.0 ∷ three.0 ∷ (replicate 13 fresh_node ++ (hub.0 ∷ []));
       held = nothing ∷ record { 0 = two.1 } ∷ record { 0 = three.1 } ∷ (replicate 13 nothing ++ (record { 0 = hub.1 } ∷ []));
     })
-    words (replicate full.region 0 ++ (0x11 ∷ 0x22 ∷ 0x33 ∷ 0x44 ∷ replicate (memory_size full - full.region - 4) 0))
+    words (replicate 1024 0 ++ (0x11 ∷ 0x22 ∷ 0x33 ∷ 0x44 ∷ replicate 15356 0))
 
 -- node 3 has no plaque: "Tag Not Found"
 abbrev pub not_found : List ℕ
@@ -72,13 +68,13 @@ abbrev pub with_plaque : Machine
 with_plaque = visited silent silent silent zero_store
 
 abbrev pub with_not_found : Machine
-with_not_found = visited silent (holding 7) silent (stored not_found)
+with_not_found = visited silent (holding 7) silent (not_found ++ replicate 4089 0)
 
 abbrev pub with_both : Machine
-with_both = visited (holding 8) (holding 7) silent (stored (four_bytes ++ not_found))
+with_both = visited (holding 8) (holding 7) silent (four_bytes ++ not_found ++ replicate 4081 0)
 
 abbrev pub with_other : Machine
-with_other = visited relieved (holding 7) silent (stored not_found)
+with_other = visited relieved (holding 7) silent (not_found ++ replicate 4089 0)
 
 unfoldable pub visit : List Exchange
 visit =
@@ -88,12 +84,12 @@ visit =
     ∷ heard (leave 3) (refused 14) with_both
     ∷ heard (collect Framed 2 134) (answered (handed (0xFF02 ∷ four_bytes) 1)) with_both
     ∷ heard (acknowledge 2 1) (answered done) with_other
-    ∷ heard (cmd clears) queued (visited relieved relieved (holding 6) (stored all_cleared))
+    ∷ heard (cmd clears) queued (visited relieved relieved (holding 6) (all_cleared ++ replicate 4090 0))
     ∷ []
 
 -- the same without the two calls for reader 3: node 3 is as it was, and has no words in the store
 abbrev pub with_four : Machine
-with_four = visited (holding 8) silent silent (stored four_bytes)
+with_four = visited (holding 8) silent silent (four_bytes ++ replicate 4088 0)
 
 abbrev pub with_none : Machine
 with_none = visited relieved silent silent zero_store
@@ -104,7 +100,7 @@ visit_alone =
     ∷ heard (cmd (reads 2 0 4)) queued with_four
     ∷ heard (collect Framed 2 134) (answered (handed (0xFF02 ∷ four_bytes) 1)) with_four
     ∷ heard (acknowledge 2 1) (answered done) with_none
-    ∷ heard (cmd clears) queued (visited relieved silent (holding 6) (stored all_cleared))
+    ∷ heard (cmd clears) queued (visited relieved silent (holding 6) (all_cleared ++ replicate 4090 0))
     ∷ []
 
 -- ---- a crowd: a plaque of 255 bytes arrives at readers 3, 4 and 5; six answers of 134 words each fill nodes 3 and 4 to 804; node 5 comes
@@ -138,8 +134,8 @@ crowd_start = fresh (region_of full zero_memory)
 abbrev pub crowd : Gateway
 crowd = run full crowd_start crowding
 
--- two chains of the code from a fresh machine: one of these calls, and one without those for readers 3 to 5. Reader 1's lines are the same
--- in both, and so is its part at the end
+-- two chains of the code from a fresh machine: one of these calls, and one without those for readers 3 to 5. Reader 1's lines are the
+-- same in both, and so is its part at the end
 pub record Crowded : Type 0 where
   pub among : List Exchange
   pub alone : List Exchange

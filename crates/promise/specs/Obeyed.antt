@@ -1,10 +1,10 @@
 -- What every call promises, against the meaning.
 -- Assumes nothing.
-use Rattle.std.specs.Prelude.{ℕ, ◌≡◌, Bool, true, false, cond, List, eqb, length}
+use Rattle.std.specs.Prelude.{ℕ, ◌≡◌, Bool, true, false, cond, List, [], ◌∷◌, eqb, length}
 use Rattle.std.proofs.lemmas.List.Edits.{sets}
 use Rattle.meaning.specs.Bench.{Bench}
 use Rattle.meaning.specs.Gateway.{Gateway}
-use Rattle.meaning.specs.Call.{Call, Said, refused, answered, queued, done, quiet, handed, Outcome, step}
+use Rattle.meaning.specs.Call.{Call, Said, refused, answered, queued, Result, done, quiet, handed, Outcome, step}
 use Rattle.machine.specs.Machine.{Machine, machine, meaning}
 use Rattle.machine.specs.Consistent.{unfit}
 use Rattle.promise.specs.declared.Reply.{Reply}
@@ -40,8 +40,8 @@ expected b c m = cond (eqb (unfit b m) 0) (step b (meaning b m) c) (record { sai
 abbrev pub Obeyed : Bench → Call → Machine → Said → Machine → Type 0
 Obeyed b c m said m' = Does b (expected b c m) m said m'
 
--- the same, of what a function is given and leaves: state, store, plaque memory. `Makes` is the promise of the inner functions, for callers
--- that carry the proof of a consistent machine: f is what the paper makes of the gateway; `Answers` that of the public calls
+-- the same, of what a function is given and leaves: state, store, plaque memory. `Makes` is the promise of the inner functions, for
+-- callers that carry the proof of a consistent machine: f is what the paper makes of the gateway; `Answers` that of the public calls
 abbrev pub Makes : Bench → (Gateway → Outcome) → State → List ℕ → List ℕ → Called → List ℕ → List ℕ → Type 0
 Makes b f s store memory r store' memory' =
     Does b (f (meaning b (machine s store memory))) (machine s store memory) (said_of r.reply) (machine r.state store' memory')

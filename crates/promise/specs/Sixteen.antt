@@ -1,8 +1,8 @@
 -- Document 01, "Refusal numbers": for each of the sixteen a call and a machine that it is given on.
 -- Assumes nothing.
-use Rattle.std.specs.Prelude.{ℕ, ◌-◌, true, List, [], ◌∷◌, ◌++◌, map, replicate}
+use Rattle.std.specs.Prelude.{ℕ, true, List, [], ◌∷◌, ◌++◌, map, replicate}
 use Rattle.units.specs.declared.Form.TheVariants.{Register, Framed}
-use Rattle.meaning.specs.Bench.{full, memory_size}
+use Rattle.meaning.specs.Bench.{full}
 use Rattle.meaning.specs.Cases.{march, midnight, search, reads}
 use Rattle.meaning.specs.CasesOfCalls.{cmd, id_a}
 use Rattle.meaning.specs.Call.{Call, command, check, arrive, leave, collect, acknowledge, Said}
@@ -24,28 +24,28 @@ abbrev pub with : Reader → Node → ℕ → List ℕ → Machine
 with r n words store =
     machine (record {
       name = fresh_state.name;
-      readers = r ∷ replicate (full.readers - 1) fresh_reader;
-      nodes = n ∷ replicate full.readers fresh_node;
-      held = record { 0 = words } ∷ replicate full.readers nothing;
-    }) store (replicate (memory_size full) 0)
+      readers = r ∷ replicate 15 fresh_reader;
+      nodes = n ∷ replicate 16 fresh_node;
+      held = record { 0 = words } ∷ replicate 16 nothing;
+    }) store (replicate 16384 0)
 
 abbrev pub idle : Machine
-idle = with fresh_reader fresh_node 0 (replicate full.store 0)
+idle = with fresh_reader fresh_node 0 (replicate 4096 0)
 
 abbrev pub short : Machine
-short = with fresh_reader fresh_node 0 (replicate (full.store - 1) 0)
+short = with fresh_reader fresh_node 0 (replicate 4095 0)
 
 abbrev pub unnumbered : Machine
-unnumbered = with fresh_reader (record { instance = 0; handover = 0; answers = 0 }) 0 (replicate full.store 0)
+unnumbered = with fresh_reader (record { instance = 0; handover = 0; answers = 0 }) 0 (replicate 4096 0)
 
 abbrev pub tagged : Machine
 tagged = with (record { plaque = record { present = true; id = id_a; length = record { 0 = 4 } }; reading = off; report = no_report })
-    fresh_node 0 (replicate full.store 0)
+    fresh_node 0 (replicate 4096 0)
 
 -- node 1 with an answer of 6 words pending
 abbrev pub waiting : Machine
 waiting = with fresh_reader (record { instance = 1; handover = 1; answers = 1 }) 6
-    (0x0006 ∷ 0xAA08 ∷ 0x0001 ∷ 0x0101 ∷ 0x0000 ∷ 0x0000 ∷ replicate (full.store - 6) 0)
+    (0x0006 ∷ 0xAA08 ∷ 0x0001 ∷ 0x0101 ∷ 0x0000 ∷ 0x0000 ∷ replicate 4090 0)
 
 -- node 1 with six answers of 134 words each, 804 in all
 abbrev pub longest : List ℕ
@@ -53,7 +53,7 @@ longest = 0x0086 ∷ 0xAA05 ∷ 0x0001 ∷ 0x0101 ∷ 0x0000 ∷ 0x00FF ∷ repl
 
 abbrev pub crowded : Machine
 crowded = with fresh_reader (record { instance = 6; handover = 1; answers = 6 }) 804
-    (longest ++ longest ++ longest ++ longest ++ longest ++ longest ++ replicate (full.store - 804) 0)
+    (longest ++ longest ++ longest ++ longest ++ longest ++ longest ++ replicate 3292 0)
 
 -- in the order of the numbers
 unfoldable pub sixteen : List Input

@@ -1,15 +1,9 @@
--- A whole text that was put, as one number.
+-- An enum of a length and of "too short", as one number.
 -- Assumes nothing.
-use Rattle.units.proofs.Common.{◌∙◌, ◌≡◌, refl, ap, true, false, Bool, cond, List, ℕ, leb, length}
-use Rattle.text.specs.Text.{PutWhole}
-use Rattle.text.specs.declared.Output.{Output}
-use Rattle.rashdumof.specs.Number.{number_of}
+use Rattle.units.proofs.Common.{◌≡◌, refl, true, false, Bool, cond, ℕ}
 
 -- what stands for a test's two answers is what stands for the answer
-by_test : (t : Bool) (n : ℕ) → number_of (cond t (Output.Written n) Output.TooShort) ≡ cond t n 18446744073709551615
-by_test true n = refl
-by_test false n = refl
-
-pub number_put : {least : ℕ} {text old new : List ℕ} {r : Output} → PutWhole least text old new r
-    → number_of r ≡ cond (leb least (length old)) (length text) 18446744073709551615
-number_put {least} {text} {old} w = ap number_of w.says ∙ by_test (leb least (length old)) (length text)
+pub by_test : {A : Type 0} (f : A → ℕ) (w : ℕ → A) (a : A) → ((n : ℕ) → f (w n) ≡ n) → (t : Bool) (n : ℕ) → f (cond t (w n) a) ≡ cond t n
+    (f a)
+by_test f w a e true n = e n
+by_test f w a e false n = refl

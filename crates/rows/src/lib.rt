@@ -1,4 +1,6 @@
 // The table of commands: the command byte decides what a packet carries, its words' limits, and its effect.
+#![tactic(auto)]
+
 ghost use Rattle.std.specs.Prelude.{◌≤◌, ◌≡◌, true};
 ghost use Rattle.meaning.specs.Bench.{full, hub};
 ghost use Rattle.meaning.specs.declared.table.Kind.TheVariants.{Plaque, Gateway};

@@ -1,12 +1,11 @@
 -- What a whole record says in numbers, and back; and what an answer of the reader says of the bytes.
 -- Assumes nothing.
-use Rattle.units.proofs.Common.{sym, ◌∙◌, ◌≡◌, refl, true, false, Bool, cond, ◌&&◌, List, ℕ, ◌≤◌, ◌+◌, ◌*◌, arith, leb, length}
-use Rattle.units.proofs.Common.{le-leb, leb-true, within, yes_cond, no_cond, yes_and, and_true}
+use Rattle.units.proofs.Common.{sym, ◌∙◌, ◌≡◌, refl, true, false, Bool, cond, ◌&&◌, List, ℕ, ◌≤◌, ◌-◌, ◌+◌, ◌*◌, arith, leb, length, drop}
+use Rattle.units.proofs.Common.{take, length-drop, take_all, le-leb, leb-true, within, yes_cond, no_cond, yes_and, and_true}
 use Rattle.units.specs.declared.Bytes.{Bytes}
 use Rattle.units.specs.declared.Words.{Words}
 use Rattle.meaning.proofs.Terms.{Bench, is_reader}
 use Rattle.listing.specs.Records.{count_whole, count_said, plaque_whole, plaque_node, plaque_length, plaque_size, command_whole, command_length}
-use Rattle.meaning.specs.Packet.{longest_packet}
 use Rattle.listing.specs.Records.{command_size}
 use Rattle.runfile.specs.Records.{count_of, plaque_of, command_of}
 use Rattle.runfile.specs.declared.CountRecord.{CountRecord}
@@ -130,21 +129,20 @@ plaque_unread b bs e = untaken (plaque_whole b bs) e (λ a. let z : ◌≡◌ {A
 -- ---- a command, of n words
 pub record CommandFacts (bs : List ℕ) (n : ℕ) : Type 0 where
   pub low : 6 ≤ n
-  pub high : n ≤ longest_packet
+  pub high : n ≤ 134
   pub there : 5 + 2 * n ≤ length bs
 
 pub command_facts : (bs : List ℕ) → command_whole bs ≡ true → CommandFacts bs (command_length bs)
 unfolding command_whole
 command_facts bs e =
-    let p = and_true (leb 7 (length bs) && within 6 longest_packet (command_length bs)) (leb (command_size bs) (length bs)) e in
-    let l = within_true 6 longest_packet (command_length bs) (and_true (leb 7 (length bs)) (within 6 longest_packet (command_length bs))
-    p.0).1 in
+    let p = and_true (leb 7 (length bs) && within 6 134 (command_length bs)) (leb (command_size bs) (length bs)) e in
+    let l = within_true 6 134 (command_length bs) (and_true (leb 7 (length bs)) (within 6 134 (command_length bs)) p.0).1 in
     record { low = l.0; high = l.1; there = leb-true (command_size bs) (length bs) p.1 }
 
 pub facts_command : (bs : List ℕ) → CommandFacts bs (command_length bs) → command_whole bs ≡ true
 unfolding command_whole
 facts_command bs f =
-    yes_and (yes_and (le-leb 7 (length bs) (omega arith)) ∙ true_within 6 longest_packet (command_length bs) f.low f.high)
+    yes_and (yes_and (le-leb 7 (length bs) (omega arith)) ∙ true_within 6 134 (command_length bs) f.low f.high)
     ∙ le-leb (command_size bs) (length bs) f.there
 
 pub no_command : (bs : List ℕ) → (CommandFacts bs (command_length bs) → ⊥) → CommandRecord.Broken ≡ command_of bs
@@ -173,3 +171,7 @@ command_read bs {n} e =
 pub command_unread : (bs : List ℕ) → CommandRecord.Broken ≡ command_of bs → command_whole bs ≡ false
 unfolding command_of
 command_unread bs e = untaken (command_whole bs) e (λ a. let z : ◌≡◌ {A = ℕ} 0 1 = cc in omega arith)
+
+-- ---- the rest from a position on, as it is lent
+pub from : (at : ℕ) (bs : List ℕ) → take (length bs - at) (drop at bs) ≡ drop at bs
+from at bs = take_all (length bs - at) (drop at bs) (simp length-drop (omega arith))

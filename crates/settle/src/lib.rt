@@ -1,5 +1,7 @@
 // A decided call is settled: room is judged, the answer joins its node's list, and what the call changed is handed back. Where it is
 // refused, all is handed back as it was. The state stays where it lies: its owner takes the parts out and puts them back.
+#![tactic(auto)]
+
 ghost use Rattle.std.specs.Prelude.{ℕ, List};
 ghost use Rattle.meaning.specs.Bench.{full};
 ghost use Rattle.decided.specs.Decided as O;
@@ -18,7 +20,7 @@ use store::{Broom, swept};
 use units::{NODES, READERS, Words};
 
 // A reader's node, the words that all nodes hold, and the reader, after a call; and what is said.
-#[derive(Drop)]
+#[derive(Clone, Copy)]
 pub struct Seated {
     pub node: Node,
     pub held: [Words; NODES],
@@ -73,7 +75,7 @@ pub fn seat(
 }
 
 // All nodes, the words that they hold, and the gateway's name, after a call; and what is said.
-#[derive(Drop)]
+#[derive(Clone, Copy)]
 pub struct Housed {
     pub nodes: [Node; NODES],
     pub held: [Words; NODES],

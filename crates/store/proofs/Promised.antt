@@ -4,7 +4,7 @@ use Rattle.units.proofs.Common.{sym, ◌∙◌, ◌≡◌, refl, ap, true, List,
 use Rattle.units.proofs.Common.{arith, leb, length, drop, get_or, set, replicate, length-append, length-map, length-replicate, List·getD-map}
 use Rattle.units.proofs.Common.{leb-true, every, and_true}
 use Rattle.units.specs.declared.Words.{Words}
-use Rattle.meaning.proofs.Terms.{Bench, Sweep, joined, swept, longest_packet, well_formed, added, held}
+use Rattle.meaning.proofs.Terms.{Bench, Sweep, joined, swept, overall, well_formed, added, held}
 use Rattle.meaning.specs.Gateway as M
 use Rattle.machine.proofs.Terms.{nothing, fresh_node, joined_node, taken_node, all_laid, nodes_in, plain, node_at, charges_of, bounded, counts}
 use Rattle.machine.specs.Layout.{front}
@@ -96,7 +96,7 @@ module _ (b : Bench) (store : List ℕ) (s : State) (ok : Sound b store s) where
       pub ordered : place_of hs (i + 1) ≤ place_of hs k
       pub fits : place_of hs k + length a ≤ length store
       pub words : (get_or s.held i nothing).0 + length a ≤ b.limit
-      pub few : length a ≤ longest_packet
+      pub few : length a ≤ overall 255
       pub after : Listed b store (inserted store (place_of hs (i + 1)) (place_of hs k) a) s
           (with_lists s (set ns i (joined_node (get_or ns i blank))) (set s.held i (record { 0 = (get_or s.held i nothing).0 + length a })))
           (joined_at ms i a)
@@ -153,7 +153,7 @@ module _ (b : Bench) (store : List ℕ) (s : State) (ok : Sound b store s) where
       pub stands : front (drop (place_of hs i) store) ≡ oldest
       pub says : get_or store (place_of hs i) 0 ≡ length oldest
       pub least : 6 ≤ length oldest
-      pub most : length oldest ≤ longest_packet
+      pub most : length oldest ≤ overall 255
       pub own : length oldest ≤ (get_or s.held i nothing).0
       pub before : place_of hs i + length oldest ≤ place_of hs k
       pub inside : place_of hs k ≤ length store

@@ -1,5 +1,5 @@
 -- What a change of the lists promises: by the meaning. The layout is one, so that this fixes state and store to the last word (law
--- `one-content` of `machine`).
+-- `one-content` of `state`).
 -- Assumes nothing.
 use Rattle.std.specs.Prelude.{ℕ, ◌<◌, ◌≡◌, true, List, length, get_or, set}
 use Rattle.units.specs.declared.Words.{Words}

@@ -4,7 +4,7 @@ use Rattle.std.specs.Prelude.{ℕ, ◌+◌, ◌-◌, ◌≤◌, ◌<◌, ◌≡�
 use Rattle.units.specs.declared.Words.{Words}
 use Rattle.meaning.specs.Bench.{Bench, node_count}
 use Rattle.meaning.specs.Gateway.{Sweep, none, clearing, resetting}
-use Rattle.meaning.specs.Packet.{longest_packet}
+use Rattle.meaning.specs.Packet.{overall}
 use Rattle.state.specs.State.{nothing, joined_node, emptied_node, reset_node}
 use Rattle.machine.specs.Consistent.{bounded, counts}
 use Rattle.state.specs.declared.node.Node.{Node}
@@ -46,7 +46,7 @@ pub record Enlistable (b : Bench) (hs : List Words) (i : ℕ) (own : Node) (answ
   pub bounds : bounded b (counts hs) ≡ true
   pub index : i < node_count b
   pub few : own.answers < 65535
-  pub short : answer ≤ longest_packet
+  pub short : answer ≤ overall 255
 
 -- the words that the nodes hold with an answer more at one
 abbrev pub held_more : List Words → ℕ → ℕ → List Words

@@ -1,5 +1,7 @@
 // The answer store, changed: an answer joins its node's list, the oldest leaves it, all lists are emptied. Each keeps the layout: the
 // nodes' answers one behind the other from the front, and zeros behind them.
+#![tactic(auto)]
+
 ghost use Rattle.std.specs.Prelude.{◌≡◌, map, ◌+◌, ◌≤◌, ◌<◌, length};
 ghost use Rattle.meaning.specs.Bench.{full, node_count};
 ghost use Rattle.machine.specs.Consistent.{counts};
@@ -13,7 +15,7 @@ use state::node::Node;
 use units::{NODES, Words};
 
 // What a command does to every node's list.
-#[derive(Drop)]
+#[derive(Clone, Copy)]
 pub enum Broom {
     Nothing,
     Clear,
@@ -82,7 +84,7 @@ pub fn join(held: [Words; NODES], i: usize, answer: &[u16], store: &mut [u16])
 }
 
 // The node at which an answer was judged for room, and the words that all nodes hold; where it had none, both as they were.
-#[derive(Drop)]
+#[derive(Clone, Copy)]
 pub struct Enlisted {
     pub ok: bool,
     pub node: Node,

@@ -1,5 +1,7 @@
 // Reading and writing as a program meets them: a call may move fewer bytes than it is lent, a signal may interrupt it, and a pipe or a
 // terminal that another program left non-blocking answers EAGAIN in place of waiting. None of these loses a byte here.
+#![tactic(auto)]
+
 ghost use Rattle.std.specs.Prelude.{length, ◌≤◌};
 
 use libc::STDOUT_FILENO;
@@ -50,7 +52,7 @@ pub fn put(bytes: &[u8]) -> usize
 }
 
 // How many bytes were read, and whether any could be.
-#[derive(Drop)]
+#[derive(Clone, Copy)]
 pub struct Got {
     pub n: usize,
     pub ok: bool,

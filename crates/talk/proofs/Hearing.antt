@@ -4,10 +4,9 @@ use Rattle.units.proofs.Common.{◌∙◌, ◌≡◌, refl, List, ℕ, ◌≤◌
 use Rattle.units.proofs.PackingLaws.{sets_fits}
 use Rattle.meaning.proofs.Terms.{full, command, check, arrive, leave, collect, acknowledge}
 use Rattle.dialog.specs.Spoken.{Spoken, passed, unreadable, call, look, spoken, most_words, longest_id, longest_plaque}
-use Rattle.dialog.specs.Spoken.{output_lent, most_shown}
 use Rattle.dialog.proofs.SpokenLaws.{Kept, spoken_kept}
 use Rattle.lines.specs.declared.Heard.{Heard}
-use Rattle.lines.specs.Heard.{heard_of, in_buffers}
+use Rattle.lines.specs.Heard.{heard_of, words_in, id_in, bytes_in}
 use Rattle.aiming.specs.Aim.{Fits}
 
 -- what is said, by what was heard and what stands in the buffers; a look lies within the store, and its words have room on a line
@@ -19,19 +18,18 @@ Understood s (Heard.Check n t c) ws id bs = s ≡ call (check n t c)
 Understood s (Heard.Arrive n i k) ws id bs =
     (s ≡ call (arrive n (take i.0 id) (take k.0 bs))) × (i.0 ≤ length id) × (k.0 ≤ length bs)
 Understood s (Heard.Leave n) ws id bs = s ≡ call (leave n)
-Understood s (Heard.Collect n f) ws id bs = s ≡ call (collect f n output_lent)
+Understood s (Heard.Collect n f) ws id bs = s ≡ call (collect f n 135)
 Understood s (Heard.Acknowledge n h) ws id bs = s ≡ call (acknowledge n h)
-Understood s (Heard.Store f c) ws id bs = (s ≡ look f c) × (c ≤ most_shown) × (f + c ≤ full.store)
+Understood s (Heard.Store f c) ws id bs = (s ≡ look f c) × (c ≤ 128) × (f + c ≤ full.store)
 
 -- a buffer that has room for xs has them in front
 front : (xs old : List ℕ) → length xs ≤ length old → take (length xs) (sets old 0 xs) ≡ xs
 front xs old h = rw (sets_fits xs old h) (take_at xs (drop (length xs) old) (length xs) refl)
 
 module _ (w i b : List ℕ) (lw : length w ≡ most_words) (li : length i ≡ longest_id) (lb : length b ≡ longest_plaque) where
-  by_said : (s : Spoken) → Kept s
-      → Understood s (heard_of s) (sets w 0 (in_buffers s).words) (sets i 0 (in_buffers s).id) (sets b 0 (in_buffers s).bytes)
-      × Fits (heard_of s) (length (sets w 0 (in_buffers s).words))
-  unfolding Kept heard_of in_buffers Understood Fits
+  by_said : (s : Spoken) → Kept s → Understood s (heard_of s) (sets w 0 (words_in s)) (sets i 0 (id_in s)) (sets b 0 (bytes_in s))
+      × Fits (heard_of s) (length (sets w 0 (words_in s)))
+  unfolding Kept heard_of words_in id_in bytes_in Understood Fits
   by_said passed k = (refl, tt)
   by_said unreadable k = (refl, tt)
   by_said (call (command t f ws)) k =
@@ -54,15 +52,15 @@ pub record Buffered (line : List ℕ) (h : Heard) (ws id bs : List ℕ) : Type 0
 
 pub understood : (w i b : List ℕ) → length w ≡ most_words → length i ≡ longest_id → length b ≡ longest_plaque → (line : List ℕ) {h : Heard}
     {ws id bs : List ℕ}
-    → (h ≡ heard_of (spoken line)) × ((ws ≡ sets w 0 (in_buffers (spoken line)).words) × ((id ≡ sets i 0 (in_buffers (spoken line)).id)
-    × (bs ≡ sets b 0 (in_buffers (spoken line)).bytes)))
+    → (h ≡ heard_of (spoken line)) × ((ws ≡ sets w 0 (words_in (spoken line))) × ((id ≡ sets i 0 (id_in (spoken line)))
+    × (bs ≡ sets b 0 (bytes_in (spoken line)))))
     → Buffered line h ws id bs
 understood w i b lw li lb line (e, (f, (g, k))) =
     let t = by_said w i b lw li lb (spoken line) (spoken_kept line) in
     rw (e, f, g, k) (record {
       tells = t.0;
       fits = t.1;
-      words_long = length-sets w 0 (in_buffers (spoken line)).words ∙ lw;
-      id_long = length-sets i 0 (in_buffers (spoken line)).id ∙ li;
-      bytes_long = length-sets b 0 (in_buffers (spoken line)).bytes ∙ lb;
+      words_long = length-sets w 0 (words_in (spoken line)) ∙ lw;
+      id_long = length-sets i 0 (id_in (spoken line)) ∙ li;
+      bytes_long = length-sets b 0 (bytes_in (spoken line)) ∙ lb;
     })

@@ -1,5 +1,5 @@
--- A line played on a machine that is consistent: the machine after is consistent and means the gateway after the line, and what was written
--- is the line's reply.
+-- A line played on a machine that is consistent: the machine after is consistent and means the gateway after the line, and what was
+-- written is the line's reply.
 -- Assumes nothing.
 use Rattle.units.proofs.Common.{sym, ◌∙◌, ◌≡◌, refl, ap, subst, List, ℕ, ◌≤◌, ◌-◌, ◌+◌, arith, length, drop, take, length-take}
 use Rattle.units.proofs.Common.{length-take-le, slice, drop_at, take-add}
@@ -11,7 +11,7 @@ use Rattle.promise.proofs.Promises.{by_step}
 use Rattle.promise.proofs.Chains.{stepped}
 use Rattle.text.specs.Text.{Put}
 use Rattle.text.proofs.Writing.{put_as}
-use Rattle.dialog.specs.Spoken.{Spoken, passed, unreadable, call, look, spoken, most_shown}
+use Rattle.dialog.specs.Spoken.{Spoken, passed, unreadable, call, look, spoken}
 use Rattle.dialog.specs.Dialog.{said_line, store_line, reply_to, longest_answer}
 use Rattle.dialogout.proofs.Rooms.{store_short}
 use Rattle.talk.specs.Talk.{Follows, Plays}
@@ -43,12 +43,12 @@ module _ {b : Bench} {m : Machine} {line old new : List ℕ} {to at : ℕ} where
   played e p f h = record { wrote = rw e p; follows = rw e f; room = h }
 
   -- a look, and the words that were looked at written
-  pub plays_look : Sound b → unfit b m ≡ 0 → (f c : ℕ) → spoken line ≡ look f c → c ≤ most_shown → f + c ≤ length m.store
+  pub plays_look : Sound b → unfit b m ≡ 0 → (f c : ℕ) → spoken line ≡ look f c → c ≤ 128 → f + c ≤ length m.store
       → Put old to (store_line (slice f (f + c) m.store)) new at → Plays b m line old to new at m
   unfolding reply_to Follows
   plays_look ok fits f c e few inside p =
       let w : List ℕ = slice f (f + c) m.store in
-      let l : length w ≤ most_shown =
+      let l : length w ≤ 128 =
       omega (arith, few, ap length (sym (part_is f c m.store inside)), length-take (f + c - f) (drop f m.store)) in
       played e (put_as (ap (λ (w : List ℕ). store_line (slice f (f + c) w)) (store_lies b ok m fits)) p) refl
       (omega (arith, p.next, store_short w l))

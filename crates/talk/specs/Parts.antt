@@ -15,7 +15,6 @@ use Rattle.promise.specs.Obeyed.{Does}
 use Rattle.handover.specs.Handed.{Slot}
 use Rattle.text.specs.Text.{Put}
 use Rattle.listing.specs.Lines.{refused_line}
-use Rattle.dialog.specs.Spoken.{output_lent, most_shown}
 use Rattle.dialog.specs.Dialog.{unreadable_line, said_line, store_line, longest_answer}
 use Rattle.aiming.specs.declared.Aside.{Aside}
 use Rattle.aiming.specs.declared.Want.{Want}
@@ -35,7 +34,7 @@ unfoldable pub Lies : Aside → ℕ → Type 0
 Lies Aside.Passed store = Unit {0}
 Lies Aside.Unreadable store = Unit {0}
 Lies (Aside.Refused k) store = Unit {0}
-Lies (Aside.Look first count) store = (first + count ≤ store) × (count ≤ most_shown)
+Lies (Aside.Look first count) store = (first + count ≤ store) × (count ≤ 128)
 
 -- ---- for a reader: the call at node n, with what stands in the buffers
 unfoldable pub asked : ℕ → Ask → List ℕ → List ℕ → List ℕ → Call
@@ -59,9 +58,9 @@ Asks b n (Ask.Arrive i k) ws id bytes =
     (i.0 ≤ length id) × (k.0 ≤ length bytes) × (judged b (arrive n (take i.0 id) (take k.0 bytes)) ≡ 0)
 Asks b n Ask.Leave ws id bytes = judged b (leave n) ≡ 0
 
--- ---- for a list
+-- ---- for a list: 135 words are room for every answer, with word 00
 unfoldable pub wanted : ℕ → Want → Call
-wanted n (Want.Collect f) = collect f n output_lent
+wanted n (Want.Collect f) = collect f n 135
 wanted n (Want.Acknowledge h) = acknowledge n h
 
 -- a call on machine m: brought about, and what is said of it stands in the output
@@ -74,7 +73,7 @@ pub record Tells (b : Bench) (c : Call) (m : Machine) (old : List ℕ) (to : ℕ
 abbrev pub Shows : Bench → Form → ℕ → ℕ → Node → List Words → List ℕ → List ℕ → ℕ → List ℕ → ℕ → Type 0
 Shows b f n i own held store old to new at =
     is_node b n ≡ true → node_slot b n ≡ i → (s : State) (memory : List ℕ) → Slot i own held s → unfit b (machine s store memory) ≡ 0
-    → Tells b (collect f n output_lent) (machine s store memory) old to new at (machine s store memory)
+    → Tells b (collect f n 135) (machine s store memory) old to new at (machine s store memory)
 
 abbrev pub TellsAt : Bench → Want → ℕ → ℕ → Node → List Words → List ℕ → List ℕ → List ℕ → ℕ → List ℕ → ListTold → Type 0
 TellsAt b want n i own held store store' old to new r =

@@ -1,5 +1,7 @@
 // A line of the console that was aimed: played at its own list, at its reader or at the gateway. The state stays where it lies: its owner
 // takes the parts out and puts them back.
+#![tactic(auto)]
+
 ghost use Rattle.std.specs.Prelude.{◌+◌, ◌≤◌, ◌≡◌, length, take};
 ghost use Rattle.meaning.specs.Bench.{full, hub};
 ghost use Rattle.meaning.specs.Call.{command, step};
@@ -63,7 +65,7 @@ fn put_oldest(
 }
 
 // A node and the words that all nodes hold, after a call for its list; and the place in the output after what was said.
-#[derive(Drop)]
+#[derive(Clone, Copy)]
 pub struct ListTold {
     pub node: Node,
     pub held: [Words; NODES],

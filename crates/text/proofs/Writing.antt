@@ -1,14 +1,12 @@
 -- Laws of writing: one text after another, how long a text is, and the turns of the loops.
 -- Assumes nothing.
-use Rattle.units.proofs.Common.{sym, ◌∙◌, ◌≡◌, refl, ap, subst, true, false, Bool, true≢false, cond, List, [], ◌∷◌, ◌++◌, ℕ, ◌≤◌, ◌-◌, ◌+◌}
-use Rattle.units.proofs.Common.{◌<◌, suc, ◌*◌, zero, ◌%◌, ◌^◌, ◌/◌, zero-add, add-one, ℕ_discrete, arith, ltb, leb, length, drop, get_or}
-use Rattle.units.proofs.Common.{take, set, length-append, length-take, sets, slice, take_at, drop_at, drop-cons, sets-eq, le-ltb, lt-ltb}
-use Rattle.units.proofs.Common.{le-leb, lt-leb, yes_cond, no_cond}
+use Rattle.units.proofs.Common.{sym, ◌∙◌, ◌≡◌, refl, ap, subst, true, cond, List, [], ◌∷◌, ◌++◌, ℕ, ◌≤◌, ◌-◌, ◌+◌, ◌<◌, suc, ◌*◌, zero, ◌%◌}
+use Rattle.units.proofs.Common.{◌^◌, ◌/◌, add-one, ℕ_discrete, arith, ltb, length, drop, get_or, take, set, length-append, length-take, sets}
+use Rattle.units.proofs.Common.{slice, take_at, drop_at, drop-cons, sets-eq, le-ltb, lt-ltb, yes_cond, no_cond}
 use native.Mathlib.Nat.{pow-succ', mod-eq_of_lt, add-mul-mod_self_left}
 use lib.Seq.{length-sets, set-set}
 use Rattle.units.proofs.PackingLaws.{sets_append}
-use Rattle.text.specs.Text.{Put, PutWhole, digit_of, hex_of, byte_hex_of, bytes_hex_of, decimal_within, decimal_of, words_line}
-use Rattle.text.specs.declared.Output.{Output}
+use Rattle.text.specs.Text.{Put, digit_of, hex_of, byte_hex_of, bytes_hex_of, decimal_within, decimal_of, words_line}
 
 -- what is still to be written after a text gives the whole
 put_rest : {o o₁ t : List ℕ} {at r : ℕ} (rest : List ℕ) → Put o at t o₁ r → sets o₁ r rest ≡ sets o at (t ++ rest)
@@ -49,42 +47,6 @@ put_there {old} {text} {new} {at} {r} p h =
 -- the same text by another name
 pub put_as : {o n t u : List ℕ} {at r : ℕ} → t ≡ u → Put o at t n r → Put o at u n r
 put_as {o} {n} {t} {u} {at} {r} e p = subst (λ (x : List ℕ). Put o at x n r) e p
-
--- ---- a whole text: written, or not
-module _ {least : ℕ} {text old : List ℕ} where
-  pub put_whole : {new : List ℕ} {r : ℕ} → least ≤ length old → Put old 0 text new r → r ≤ length old
-      → PutWhole least text old new (Output.Written r)
-  put_whole h p room =
-      let e = le-leb least (length old) h in
-      record {
-        says = ap Output.Written (p.next ∙ zero-add (length text)) ∙ sym (yes_cond Output.TooShort e);
-        writes = p.wrote ∙ sym (yes_cond old e);
-        fits = λ q. omega (arith, p.next, room);
-      }
-
-  pub put_none : length old < least → PutWhole least text old old Output.TooShort
-  put_none h =
-      let e = lt-leb least (length old) h in
-      record {
-        says = sym (no_cond (Output.Written (length text)) e);
-        writes = sym (no_cond (sets old 0 text) e);
-        fits = λ q. absurd (true≢false (sym q ∙ e));
-      }
-
-  -- what is written stands inside the output
-  pub whole_inside : {new : List ℕ} {r : Output} {n : ℕ} → r ≡ Output.Written n → PutWhole least text old new r → n ≤ length new
-  whole_inside {new} {r} {n} w l = by_room (leb least (length old)) refl
-    where
-      by_room : (t : Bool) → leb least (length old) ≡ t → n ≤ length new
-      by_room true e =
-          let q = l.says ∙ yes_cond Output.TooShort e in
-          let z : n ≡ length text = cc in
-          let s : length new ≡ length old = ap length (l.writes ∙ yes_cond old e) ∙ simp length-sets in
-          omega (arith, l.fits e)
-      by_room false e =
-          let q = l.says ∙ no_cond (Output.Written (length text)) e in
-          let z : ◌≡◌ {A = ℕ} 0 1 = cc in
-          omega arith
 
 -- a digit without a branch: the quotient is 1 from 10 on, and 0 below
 pub digit_is : (d : ℕ) → d < 16 → 48 + d + (d + 6) / 16 * 7 ≡ digit_of d

@@ -1,13 +1,12 @@
 -- Numbers, words and bytes as text, and what a writer of text promises.
--- Document 01, "The night run": "counts are decimal, and each line ends in one line feed"; its example has words of four upper-case digits,
--- one blank between them.
+-- Document 01, "The night run": "counts are decimal, and each line ends in one line feed"; its example has words of four upper-case
+-- digits, one blank between them.
 -- Assumes nothing.
-use Rattle.std.specs.Prelude.{ℕ, zero, suc, ◌+◌, ◌/◌, ◌%◌, ◌≤◌, ◌≡◌, true, cond, List, [], ◌∷◌, ◌++◌, ltb, leb, length}
+use Rattle.std.specs.Prelude.{ℕ, zero, suc, ◌+◌, ◌/◌, ◌%◌, ◌≡◌, cond, List, [], ◌∷◌, ◌++◌, ltb, length}
 use Prim.Native.Char.{code}
 use Prim.Native.String as S
 use Prim.Native.String.{String}
 use Rattle.std.proofs.lemmas.List.Edits.{sets}
-use Rattle.text.specs.declared.Output.{Output}
 
 -- a text's bytes
 abbrev pub ascii : String → List ℕ
@@ -54,10 +53,3 @@ words_line (w ∷ ws) = hex_of w ++ (after_word ws ∷ words_line ws)
 pub record Put (old : List ℕ) (at : ℕ) (text : List ℕ) (new : List ℕ) (r : ℕ) : Type 0 where
   pub next : r ≡ at + length text
   pub wrote : new ≡ sets old at text
-
--- a whole text at the front of an output of at least so many bytes, which has room for it and stays as it was past it; a shorter one could
--- be too short, and stays as it was
-pub record PutWhole (least : ℕ) (text old new : List ℕ) (r : Output) : Type 0 where
-  pub says : r ≡ cond (leb least (length old)) (Output.Written (length text)) Output.TooShort
-  pub writes : new ≡ cond (leb least (length old)) (sets old 0 text) old
-  pub fits : leb least (length old) ≡ true → length text ≤ length old

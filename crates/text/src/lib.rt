@@ -1,13 +1,8 @@
 // Writers of text: each writes at a place of the lent output and hands back the place after it. The caller sees to the room.
+#![tactic(auto)]
+
 ghost use Rattle.std.specs.Prelude.{◌≡◌, [], ◌∷◌, ◌+◌, ◌*◌, ◌<◌, ◌≤◌, length};
 ghost use Rattle.text.specs.Text.{Put, digit_of, byte_hex_of, bytes_hex_of, decimal_of};
-
-// What became of an output that was to hold a whole text: so many bytes are written at its front, or it could be too short for them.
-#[derive(Drop)]
-pub enum Output {
-    Written(usize),
-    TooShort,
-}
 
 pub fn put(out: &mut [u8], at: usize, b: u8) -> usize
     requires { at < length out.old }

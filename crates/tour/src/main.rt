@@ -1,5 +1,7 @@
 // A tour of the bench: at each reader a plaque arrives, a command reads three of its bytes, and the answer is collected and acknowledged;
 // at the gateway the name is asked for. Each answer, in framed form, is a line. Then the gateway's handover number goes around.
+#![tactic(auto)]
+
 use dialogout::{LONGEST_ANSWER, put_handed};
 use gateway::{acknowledge, arrive, collect, command};
 use promise::Handout;

@@ -1,4 +1,6 @@
 // Writers of words: four hexadecimal digits each, at a place of the lent output. The caller sees to the room.
+#![tactic(auto)]
+
 ghost use Rattle.std.specs.Prelude.{◌≡◌, ◌+◌, ◌*◌, ◌/◌, ◌%◌, ◌≤◌, length};
 ghost use Rattle.text.specs.Text.{Put, digit_of, hex_of, words_line};
 

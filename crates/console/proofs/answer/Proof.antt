@@ -1,6 +1,6 @@
 -- The lines' answers have room, since a line has a byte at least.
 -- Assumes nothing.
-use Rattle.units.proofs.Common.{sym, arith, length-take-le, needs}
+use Rattle.units.proofs.Common.{sym, ◌≤◌, arith, length, length-take-le, needs}
 use Rattle.text.proofs.Writing.{put_length}
 use Rattle.console.proofs.Lines.{lines_few}
 use Rattle.console.proofs.answer.Statement.{statement}
@@ -10,6 +10,10 @@ speak-requires : tie.Need-speak-requires
 speak-requires c κs =
     let s = c.before.before.before.before.before.before.before in
     (s.requires.0, omega (arith, lines_few s.args.lines.now, s.requires.1))
+
+written : (k : tie.After-speak) → k.speak.result.at ≤ length
+    k.before.before.before.before.before.before.before.before.args.out.now
+written k = k.speak.ensures.fits
 
 prefix : tie.Need-slice-reshare-prefix-put
 prefix c =

@@ -28,7 +28,7 @@ keep-requires c κs =
     (omega (arith, w.whole-lines.ensures, long w.before), inside w.before.before)
 
 pub hear-spec : {M : Type 1} → statement M
-hear-spec = tie.close (tie.spec (λ c κs. search needs) inside long (λ c κs. search needs) lines-inside lines_long
+hear-spec = tie.close (tie.spec (λ c κs. search needs) (λ c. search needs) inside long (λ c κs. search needs) lines-inside lines_long
     answer-requires keep-requires (λ c. search needs) (λ c. search needs) (λ c. search needs) (λ c. search needs)
     (λ c. (
       c.before.before.before.keep.ensures,

@@ -2,15 +2,14 @@
 -- Assumes nothing.
 use Rattle.units.proofs.Common.{refl, ◌≤◌, ◌*◌, arith, length, replicate, needs}
 use Rattle.meaning.proofs.Terms.{full}
-use Rattle.text.proofs.Writing.{put_none}
 use Rattle.dialog.specs.Dialog.{longest_answer, lines_of}
 use Rattle.blank.proofs.Blank.{blank_fit, blank_means}
-use Rattle.conversation.proofs.Conversing.{conversed}
+use Rattle.conversation.proofs.Conversing.{conversed, unconversed}
 use Rattle.conversation.proofs.converse.Statement.{statement}
 use Rattle.conversation.proofs.converse.Tie as tie
 
 returns : tie.Need-returns
-returns c = put_none (omega (arith, c.if1.true, c.before.count-lines.ensures))
+returns c = unconversed (omega (arith, c.if1.true, c.before.count-lines.ensures))
 
 enough : (c : tie.Else1) → length (lines_of c.before.before.before.before.args.input.now) * longest_answer ≤ length
     c.before.before.before.before.args.out.now

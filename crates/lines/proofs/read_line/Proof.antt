@@ -5,7 +5,7 @@ use Rattle.dialog.specs.Spoken.{passed, unreadable, spoken}
 use Rattle.dialog.proofs.SpokenLaws.{too_long, empty, comment}
 use Rattle.fields.specs.FieldsAt.{fields_from, verb_of}
 use Rattle.fields.specs.declared.Verb.{Verb}
-use Rattle.lines.specs.Heard.{heard_of, in_buffers}
+use Rattle.lines.specs.Heard.{heard_of, words_in, id_in, bytes_in}
 use Rattle.lines.proofs.Whole.{say_by, line_said, quiet_read, command_read, check_read, arrive_read, leave_read, collect_read}
 use Rattle.lines.proofs.Whole.{acknowledge_read, store_read}
 use Rattle.lines.proofs.read_line.Statement.{statement}
@@ -20,17 +20,17 @@ said : (p : tie.After-field-end) {u v : Verb} → u ≡ verb_of (take p.field-en
 said p e f = line_said p.field-end.ensures e f (omega arith) p.before.before.before.if2.false p.before.if3.false
 
 returns : tie.Need-returns
-unfolding heard_of in_buffers
-returns c = quiet_read _ _ _ _ true unreadable refl (too_long _ (omega arith)) refl
+unfolding heard_of words_in id_in bytes_in
+returns c = quiet_read _ _ _ _ true unreadable refl refl refl (too_long _ (omega arith)) refl
 
 returns-2 : tie.Need-returns-2
-unfolding heard_of in_buffers
-returns-2 c = quiet_read _ _ _ _ true passed refl (empty _ (omega arith)) refl
+unfolding heard_of words_in id_in bytes_in
+returns-2 c = quiet_read _ _ _ _ true passed refl refl refl (empty _ (omega arith)) refl
 
 returns-3 : tie.Need-returns-3
-unfolding heard_of in_buffers
+unfolding heard_of words_in id_in bytes_in
 returns-3 c =
-    quiet_read _ _ _ _ true passed refl (comment _ (omega arith) c.before.before.if2.false c.if3.true) refl
+    quiet_read _ _ _ _ true passed refl refl refl (comment _ (omega arith) c.before.before.if2.false c.if3.true) refl
 
 slice-aggregate-verb-of : tie.Need-slice-aggregate-verb-of
 slice-aggregate-verb-of c = sym (length-take-le _ _ c.before.field-end.ensures.most)
@@ -79,10 +79,10 @@ returns-10 c =
     c.read-store.ensures
 
 returns-11 : tie.Need-returns-11
-unfolding heard_of in_buffers
+unfolding heard_of words_in id_in bytes_in
 returns-11 c =
     let v = c.before.before in
-    quiet_read _ _ _ _ true unreadable refl (said v.before.before v.verb-of.ensures c.enum-told8.given.1) refl
+    quiet_read _ _ _ _ true unreadable refl refl refl (said v.before.before v.verb-of.ensures c.enum-told8.given.1) refl
 
 pub read-line-spec : {M : Type 1} → statement M
 read-line-spec = tie.close (tie.spec returns returns-2 (λ c. search needs) returns-3 (λ c κs. search needs) (λ c. search needs)

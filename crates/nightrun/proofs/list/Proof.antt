@@ -1,15 +1,16 @@
--- A listing is the line `broken`, or the line of the command count and what `play` writes; an output that could be too short stays.
+-- A listing is the line `broken`, or the line of the command count and what `play` writes; an output that could be too short stays
+-- as it is.
 use Rattle.units.proofs.Common.{ℕ, arith, replicate, length-replicate, not-false, not-true, needs}
 use Rattle.meaning.proofs.Terms.{full}
-use Rattle.text.proofs.Writing.{put_as, put_whole, put_none}
+use Rattle.text.proofs.Writing.{put_as}
 use Rattle.listingout.proofs.Rooms.{length_broken}
 use Rattle.blank.proofs.Blank.{blank_fit, blank_means}
-use Rattle.nightrun.proofs.Whole.{listing_broken, ready_fine, listed_fine}
+use Rattle.nightrun.proofs.Whole.{listed, not_listed, listing_broken, ready_fine, listed_fine}
 use Rattle.nightrun.proofs.list.Statement.{statement}
 use Rattle.nightrun.proofs.list.Tie as tie
 
 returns : tie.Need-returns
-returns c = put_none c.if1.true
+returns c = let a = c.before.before.before.args in not_listed a.file.now a.out.now c.if1.true
 
 open-requires : tie.Need-open-requires
 open-requires c κs =
@@ -22,9 +23,11 @@ returns-2 c =
     let o = t.before.before.before in
     let f = o.before.before.before.before in
     let i = f.before.before in
+    let a = i.before.before.before.args in
     let put = p.put-broken.ensures in
     let from = blank_means _ (replicate full.store 0) _ (length-replicate {A = ℕ} full.store 0) f.fresh.ensures in
-    put_whole i.if1.false (put_as (listing_broken from o.«open».ensures (not-true _ t.if2.true)) put) (omega (
+    listed a.file.now a.out.now _ _ i.if1.false
+    (put_as (listing_broken from o.«open».ensures (not-true _ t.if2.true)) put) (omega (
       arith,
       put.next,
       length_broken,

@@ -1,7 +1,6 @@
 -- The code asks what the definition doubts, in its order: the lengths, the lists, the nodes, the readers, the name.
 use Rattle.units.proofs.Common.{sym, ◌∙◌, ◌≡◌, refl, ap, true, not, length, eq-eqb, ne_eqb, not-false, not-true, needs, yes_and, no_and}
 use Rattle.units.proofs.Common.{every}
-use Rattle.meaning.specs.Bench.{node_count}
 use Rattle.meaning.proofs.Terms.{full, refusal, ◌when◌}
 use Rattle.machine.proofs.Terms.{reader_ok}
 use Rattle.state.proofs.Lists.{length_mapped}
@@ -22,8 +21,8 @@ sized : (c : tie.Start) → arrays full c.args.s ≡ true
 unfolding arrays
 sized c =
     let x : length c.args.s.name.bytes ≡ 64 = search needs in
-    let r : length c.args.s.readers ≡ full.readers = search (needs, length_mapped) in
-    let n : length c.args.s.nodes ≡ node_count full = search (needs, length_mapped) in
+    let r : length c.args.s.readers ≡ 16 = search (needs, length_mapped) in
+    let n : length c.args.s.nodes ≡ 17 = search (needs, length_mapped) in
     yes_and (eq-eqb _ _ x) ∙ yes_and (eq-eqb _ _ r) ∙ eq-eqb _ _ n
 
 -- a test that was passed

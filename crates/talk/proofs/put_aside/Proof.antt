@@ -3,7 +3,6 @@
 use Rattle.units.proofs.Common.{sym, ◌≡◌, refl, ap, subst, List, ℕ, ◌≤◌, ◌-◌, ◌+◌, arith, length, drop, length-take, needs}
 use Rattle.text.specs.Text.{Put}
 use Rattle.text.proofs.Writing.{put_as}
-use Rattle.dialog.specs.Spoken.{most_shown}
 use Rattle.dialog.specs.Dialog.{store_line}
 use Rattle.aiming.specs.declared.Aside.{Aside}
 use Rattle.talk.specs.Parts.{aside_line, Lies}
@@ -17,7 +16,7 @@ so : {a k : Aside} (store : List ℕ) {old new : List ℕ} {to r : ℕ} → a �
 so store e p = put_as (ap (λ (a : Aside). aside_line a store) (sym e)) p
 
 -- a look that lies within the store
-lies : {a : Aside} (first count store : ℕ) → a ≡ Aside.Look first count → Lies a store → (first + count ≤ store) × (count ≤ most_shown)
+lies : {a : Aside} (first count store : ℕ) → a ≡ Aside.Look first count → Lies a store → (first + count ≤ store) × (count ≤ 128)
 unfolding Lies
 lies first count store e h = subst (λ (a : Aside). Lies a store) e h
 

@@ -15,7 +15,7 @@ abbrev file : (p : tie.After-count) → List ℕ
 file p = p.before.before.before.before.before.before.before.args.file.now
 
 read : (p : tie.After-count) → CountRead (file p) p.count.given.0.0
-read p = count_read (file p) (sym p.count.given.1 ∙ p.before.before.count_of.ensures)
+read p = count_read (file p) (sym p.count.given.1 ∙ p.before.before.read_count.ensures)
 
 pub open_spec : {M : Type 1} → statement M
 open_spec = tie.close (tie.spec (λ c κs. search needs)
@@ -24,7 +24,7 @@ open_spec = tie.close (tie.spec (λ c κs. search needs)
     (λ c κs. search needs) (λ c. search needs) (λ c. search needs) (λ c κs. search needs)
     (λ c. let s = c.before.before.before.before.before.before.before.before in
     let e = count_unread s.args.file.now (sym c.before.enum_told.given.1 ∙
-    c.before.before.before.count_of.ensures) in
+    c.before.before.before.read_count.ensures) in
     stands_broken (no_plaques full (gateway s) s.args.file.now (omega arith) e) s.requires _ c.broken2.ensures)
     (λ c κs. (
       ((read c.before.before).there, omega arith),

@@ -3,7 +3,7 @@
 use Rattle.units.proofs.Common.{sym, ◌∙◌, ap, ⊎_elim, arith, not-false, not-true, ltb-false, ltb-true, needs}
 use Rattle.dialog.specs.Spoken.{longest_id, longest_plaque}
 use Rattle.dialog.proofs.FieldLaws.{clash}
-use Rattle.lines.specs.Heard.{heard_of, in_buffers}
+use Rattle.lines.specs.Heard.{heard_of, id_in, bytes_in}
 use Rattle.lines.proofs.Found.{too_few, too_many, all_there, field_is, to_end, le_next, past_end, no_arrive}
 use Rattle.numbers.proofs.Numbers.{all_from, node_is}
 use Rattle.dialog.proofs.SpokenLaws.{is_arrive}
@@ -58,7 +58,7 @@ put-bytes-requires-2 c κs =
     sym p.before.is-bytes2.ensures ∙ not-false _ p.if6.false
 
 returns-5 : tie.Need-returns-5
-unfolding heard_of in_buffers
+unfolding heard_of id_in bytes_in
 returns-5 c =
     let p = c.before.before.before.before.before.before.before in let q = p.before.before.before in
     let r = q.before.before.before in let u = r.before.before.before in let v = u.before.before.before in

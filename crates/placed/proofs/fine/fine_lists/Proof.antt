@@ -4,7 +4,7 @@
 use Rattle.units.proofs.Common.{sym, ◌∙◌, ◌≡◌, refl, ap, ⊎_elim, true, false, List, ℕ, ◌≤◌, ◌-◌, ◌+◌, add-one, arith, length, get_or}
 use Rattle.units.proofs.Common.{length-replicate, not-false, not-true, needs}
 use lib.ListN.{get_or-replicate}
-use Rattle.meaning.specs.Bench.{full, node_count}
+use Rattle.meaning.proofs.Terms.{full}
 use Rattle.placed.specs.Consistent.{ok_answer}
 use Rattle.placed.specs.declared.Node.{Node}
 use Rattle.placed.proofs.Formed.{lies, ok_front}
@@ -17,19 +17,18 @@ use Rattle.placed.proofs.fine.fine_lists.Tie as tie
 
 abbrev invariant-loop : tie.invariant-loop
 invariant-loop store nodes used₀ fine₀ i count place₀ k₀ used fine place k =
-    (k ≤ count) × (k ≤ place) × (fine ≡ true) × Walk full full.store store nodes used (left store nodes i (count - k) place)
+    (k ≤ count) × (k ≤ place) × (fine ≡ true) × Walk full 4096 store nodes used (left store nodes i (count - k) place)
 
 abbrev decreases-loop : tie.decreases-loop
 decreases-loop store nodes used₀ fine₀ i count place₀ k₀ used fine place k = count - k
 
 abbrev invariant-nodes : tie.invariant-nodes
-invariant-nodes store nodes used₀ fine₀ i₀ used fine i =
-    (i ≤ node_count full) × (fine ≡ true) × Walk full full.store store nodes used (nodes_left store nodes i)
+invariant-nodes store nodes used₀ fine₀ i₀ used fine i = (i ≤ 17) × (fine ≡ true) × Walk full 4096 store nodes used (nodes_left store nodes i)
 
 abbrev decreases-nodes : tie.decreases-nodes
-decreases-nodes store nodes used₀ fine₀ i₀ used fine i = node_count full - i
+decreases-nodes store nodes used₀ fine₀ i₀ used fine i = 17 - i
 
-nodes-each : (c : tie.Start invariant-loop decreases-loop invariant-nodes decreases-nodes) → length c.args.t1 ≡ node_count full
+nodes-each : (c : tie.Start invariant-loop decreases-loop invariant-nodes decreases-nodes) → length c.args.t1 ≡ 17
 nodes-each c = search (needs, length_mapped)
 
 -- in the inner loop: the words of the store, the node's index, and the place of the answer
@@ -49,15 +48,11 @@ in_order c = ok_front _ _ _ _ ∙ sym c.before.Answer-Ok.ensures ∙ not-false _
 
 -- .. and lies inside the store
 inside : (c : tie.Else1 invariant-loop decreases-loop invariant-nodes decreases-nodes)
-    → let d = c.before.before in spot d + get_or (words d) (spot d) 0 ≤ full.store
+    → let d = c.before.before in spot d + get_or (words d) (spot d) 0 ≤ 4096
 inside c = omega (arith, (lies _ _ _ _ (in_order c)).inside, c.before.before.before.before.before.before.before.before.before.requires)
 
 nodes-holds : tie.Need-nodes-init invariant-loop decreases-loop invariant-nodes decreases-nodes
-nodes-holds c = (
-  omega arith,
-  refl,
-  walk_start _ _ _ _ _ (length-replicate full.store false) (λ w h. get_or-replicate full.store w false false h),
-)
+nodes-holds c = (omega arith, refl, walk_start _ _ _ _ _ (length-replicate 4096 false) (λ w h. get_or-replicate 4096 w false false h))
 
 loop-holds : tie.Need-loop-init invariant-loop decreases-loop invariant-nodes decreases-nodes
 loop-holds c =

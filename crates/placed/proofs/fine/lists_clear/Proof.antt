@@ -2,7 +2,6 @@
 -- Assumes nothing.
 use Rattle.units.proofs.Common.{sym, ◌∙◌, ◌≡◌, ⊎_elim, true, ◌≤◌, ◌-◌, arith, length, drop, get_or, eq-eqb, ne_eqb, not-false, not-true}
 use Rattle.units.proofs.Common.{needs, every, yes_cond, no_cond, yes_and, no_and}
-use Rattle.meaning.specs.Bench.{full, node_count}
 use Rattle.placed.specs.Consistent.{list_clear}
 use Rattle.placed.proofs.InOrder.{blank}
 use Rattle.state.proofs.Lists.{length_mapped, every_at, every_end}
@@ -10,12 +9,12 @@ use Rattle.placed.proofs.fine.lists_clear.Statement.{statement}
 use Rattle.placed.proofs.fine.lists_clear.Tie as tie
 
 abbrev invariant-loop : tie.invariant-loop
-invariant-loop nodes i₀ i = (i ≤ node_count full) × (every list_clear nodes ≡ every list_clear (drop i nodes))
+invariant-loop nodes i₀ i = (i ≤ 17) × (every list_clear nodes ≡ every list_clear (drop i nodes))
 
 abbrev decreases-loop : tie.decreases-loop
-decreases-loop nodes i₀ i = node_count full - i
+decreases-loop nodes i₀ i = 17 - i
 
-nodes-each : (c : tie.Start invariant-loop decreases-loop) → length c.args.t1 ≡ node_count full
+nodes-each : (c : tie.Start invariant-loop decreases-loop) → length c.args.t1 ≡ 17
 nodes-each c = search (needs, length_mapped)
 
 returns : tie.Need-returns invariant-loop decreases-loop
