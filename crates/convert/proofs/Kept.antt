@@ -1,6 +1,6 @@
 -- Both converters keep the meaning; there and back from the layout without gaps is the same machine. Any bench.
 -- Assumes nothing.
-use Rattle.units.proofs.Common.{needs, sym, ◌∙◌, ◌≡◌, refl, ap, ◌&&◌, List, [], ◌∷◌, map, ℕ, leb, length, length-map, every}
+use Rattle.units.proofs.Common.{rules, sym, ◌∙◌, ◌≡◌, refl, ap, ◌&&◌, List, [], ◌∷◌, map, ℕ, leb, length, length-map, every}
 use Rattle.meaning.proofs.Terms.{Bench}
 use Rattle.meaning.specs.Gateway as M
 use Rattle.demands.specs.Sound as D
@@ -46,7 +46,7 @@ module _ (b : Bench) (m : P.Machine) (ok : PC.unfit b m ≡ 0) where
       let nodes = sym (handed_new m.state.nodes) ∙ p.nodes in
       let each = length-map m.state.nodes new_node ∙ p.each_node in
       let helds = length-map m.state.nodes held_by ∙ p.each_node in
-      NP.fit b (new_machine m) (search needs)
+      NP.fit b (new_machine m) (search rules)
 
   pub new_means : N.meaning b (new_machine m) ≡ P.meaning b m
   unfolding N.meaning N.nodes_of P.meaning P.nodes_of
@@ -70,7 +70,7 @@ module _ (b : Bench) (m : N.Machine) (ok : C.unfit b m ≡ 0) where
       let lists = placed_ok b m.store m.state.nodes m.state.held ms unpacked in
       let nodes = handed_old m.store ns ∙ ap (every numbered) old_nodes ∙ sym (handovers m.store m.state.nodes) ∙ p.nodes in
       let each = sym (length-map ns (node_of m.store)) ∙ ap length old_nodes ∙ length_nodes m.store m.state.nodes ∙ p.each_node in
-      PP.fit b (old_machine m) (search needs)
+      PP.fit b (old_machine m) (search rules)
 
   pub old_means : P.meaning b (old_machine m) ≡ N.meaning b m
   unfolding N.meaning N.nodes_of P.meaning P.nodes_of

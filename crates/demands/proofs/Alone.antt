@@ -1,6 +1,6 @@
 -- The third demand's second half: a reader that stays within its share, on a gateway that does, never notices the others.
 -- Assumes nothing.
-use Rattle.units.proofs.Common.{yes_or, needs, sym, ◌∙◌, ◌≡◌, refl, ap, true, false, Bool, cond, true≢false, List, [], ◌∷◌, ℕ, eqb, eq-eqb}
+use Rattle.units.proofs.Common.{yes_or, rules, sym, ◌∙◌, ◌≡◌, refl, ap, true, false, Bool, cond, true≢false, List, [], ◌∷◌, ℕ, eqb, eq-eqb}
 use Rattle.units.proofs.Common.{ne_eqb, eqb-true, eqb-false}
 use mathlib.Core.Path.{ap₂}
 use Rattle.meaning.proofs.Terms.{at_hub, Bench, hub, Node, Reader, Gateway, put, joined, join, taken, swept, fresh, set_node, set_reader, fits}
@@ -38,10 +38,10 @@ unfolding put
 put_alike n a f k m e = ap (λ y. cond (eqb m n) a y) e
 
 same_set_node : (i n : ℕ) (x : Node) (g s : Gateway) → Same i g s → Same i (set_node n x g) (set_node n x s)
-same_set_node i n x g s e = search (needs, put_alike)
+same_set_node i n x g s e = search (rules, put_alike)
 
 same_set_reader : (i n : ℕ) (r : Reader) (g s : Gateway) → Same i g s → Same i (set_reader n r g) (set_reader n r s)
-same_set_reader i n r g s e = search (needs, put_alike)
+same_set_reader i n r g s e = search (rules, put_alike)
 
 same_from_desk : (i : ℕ) (d : Desk) (g s : Gateway) → Same i g s → Same i (from_desk d g) (from_desk d s)
 unfolding from_desk
@@ -132,10 +132,10 @@ apart_set_node : (i n : ℕ) (x : Node) (g s : Gateway) → (i ≡ n → ⊥) �
 apart_set_node i n x g s p q e =
     let own = put_other n x g.nodes i p ∙ e.own in
     let hubs = put_other n x g.nodes hub q ∙ e.hubs in
-    search needs
+    search rules
 
 apart_set_reader : (i n : ℕ) (r : Reader) (g s : Gateway) → (i ≡ n → ⊥) → Same i g s → Same i (set_reader n r g) s
-apart_set_reader i n r g s p e = let side = put_other n r g.reader i p ∙ e.side in search needs
+apart_set_reader i n r g s p e = let side = put_other n r g.reader i p ∙ e.side in search rules
 
 apart_lifted : (i n : ℕ) (g s : Gateway) (l : Local Reader) → (i ≡ n → ⊥) → (hub ≡ n → ⊥) → Same i g s → Apart i s
     (lifted (set_reader n) n g l)

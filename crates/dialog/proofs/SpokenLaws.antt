@@ -1,7 +1,7 @@
 -- Laws of the calls of the table: numbers one after another, and what makes a line each call.
 -- Assumes nothing.
 use Rattle.units.proofs.Common.{sym, ◌∙◌, ◌≡◌, refl, ap, true, false, Bool, cond, ◌&&◌, false≢true, ◌||◌, List, [], ◌∷◌, ◌++◌, ℕ, ◌≤◌, ◌+◌}
-use Rattle.units.proofs.Common.{◌<◌, arith, eqb, leb, ltb, length, drop, get_or, length-map, List·getD-eq-default, get_or-drop, eq-eqb, ne_eqb}
+use Rattle.units.proofs.Common.{◌<◌, arith, eqb, leb, ltb, length, drop, get_or, length-map, get_or-eq_default, get_or-drop, eq-eqb, ne_eqb}
 use Rattle.units.proofs.Common.{le-leb, eqb-true, leb-true, le-ltb, lt-ltb, every, yes_cond, no_cond, yes_or, no_or, and_true}
 use native.Mathlib.Decide.{dec_lt}
 use Rattle.meaning.proofs.Terms.{same, Call, command, check, arrive, leave, collect, acknowledge}
@@ -205,7 +205,7 @@ module _ (fs : List (List ℕ)) where
   unfolding same
   form_there k e = elim (dec_lt k (length fs)) [
     | yes h ↦ h
-    | no h ↦ absurd (false≢true (sym (ap is_form (List·getD-eq-default fs [] {n = k} (omega arith))) ∙ e))
+    | no h ↦ absurd (false≢true (sym (ap is_form (get_or-eq_default fs [] {n = k} (omega arith))) ∙ e))
   ]
 
   -- five nodes are a stamp

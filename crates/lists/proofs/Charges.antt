@@ -1,7 +1,7 @@
 -- Held words, charges and room, for any number of nodes and any bench.
 -- Assumes nothing.
 use Rattle.units.proofs.Common.{◌≡◌, true, false, Bool, List, [], ◌∷◌, ℕ, ◌≤◌, ◌+◌, ◌<◌, suc, zero, max, arith, leb, length, get_or, take}
-use Rattle.units.proofs.Common.{set, length-map, List·getD-map, le-leb, leb-true, lt-leb, every, yes_and, no_and, and_true}
+use Rattle.units.proofs.Common.{set, length-map, get_or-map, le-leb, leb-true, lt-leb, every, yes_and, no_and, and_true}
 use Rattle.units.specs.declared.Words.{Words}
 use Rattle.meaning.proofs.Terms.{Bench}
 use Rattle.machine.proofs.Terms.{counts, charges_of, bounded}
@@ -9,7 +9,7 @@ use Rattle.state.proofs.Lists.{every_get}
 use Rattle.lists.specs.Room.{room_for}
 
 pub count_at : (ws : List Words) (i : ℕ) → get_or (counts ws) i 0 ≡ (get_or ws i (record { 0 = 0 })).0
-count_at ws i = List·getD-map (λ w. w.0) ws i (record { 0 = 0 })
+count_at ws i = get_or-map (λ w. w.0) ws i (record { 0 = 0 })
 
 -- ---- charges: those of one node more
 pub charges_more : (share : ℕ) (l : List ℕ) (i : ℕ) → i < length l

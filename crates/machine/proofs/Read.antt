@@ -1,8 +1,8 @@
 -- The store read and laid: each undoes the other. So state and store follow from what they mean, to the last word. Any bench.
 -- Assumes nothing.
 use Rattle.units.proofs.Common.{sym, ◌∙◌, ◌≡◌, refl, ap, true, false≢true, List, [], ◌∷◌, ◌++◌, map, append_assoc, ℕ, ◌≤◌, ◌-◌, ◌<◌, suc}
-use Rattle.units.proofs.Common.{◌*◌, zero, arith, eqb, length, get_or, replicate, length-append, length-replicate, List·getD-map}
-use Rattle.units.proofs.Common.{List·getD-append, take-append-drop, eq-eqb, eqb-true, every, and_true}
+use Rattle.units.proofs.Common.{◌*◌, zero, arith, eqb, length, get_or, replicate, length-append, length-replicate, get_or-map}
+use Rattle.units.proofs.Common.{get_or-append, take-append-drop, eq-eqb, eqb-true, every, and_true}
 use native.Mathlib.Nat.{mul-suc}
 use lib.Seq.{take-append_seam, drop-append_seam}
 use Rattle.units.specs.declared.Words.{Words}
@@ -37,7 +37,7 @@ is_same xs ys e = ap (same xs) (sym e) ∙ same_self xs
 -- ---- one answer
 module _ (b : Bench) (n : ℕ) (a r : List ℕ) (h : well_formed b n a ≡ true) where
   pub first_word : get_or (a ++ r) 0 0 ≡ length a
-  first_word = let l = formed_least b n a h in List·getD-append a r 0 0 (omega arith) ∙ formed_says b n a h
+  first_word = let l = formed_least b n a h in get_or-append a r 0 0 (omega arith) ∙ formed_says b n a h
 
   pub front_is : front (a ++ r) ≡ a
   front_is = rw first_word (take-append_seam a r)
@@ -109,7 +109,7 @@ nodes_for w [] = refl
 nodes_for w (n ∷ ns) = let c = length_cuts n.answers w in rw (c, ← nodes_for (past n.answers w) ns)
 
 pub node_for_lem : (w : List ℕ) (ns : List Node) (i : ℕ) → get_or ns i fresh_node ≡ node_for (get_or (nodes_in w ns) i plain)
-node_for_lem w ns i = ap (λ (l : List Node). get_or l i fresh_node) (nodes_for w ns) ∙ List·getD-map node_for (nodes_in w ns) i plain
+node_for_lem w ns i = ap (λ (l : List Node). get_or l i fresh_node) (nodes_for w ns) ∙ get_or-map node_for (nodes_in w ns) i plain
 
 -- laid, then read
 nodes_laid : (b : Bench) (j : ℕ) (ms : List M.Node) (q : List ℕ) → formed b j ms ≡ true → nodes_in (all_laid ms ++ q) (map node_for ms) ≡ ms

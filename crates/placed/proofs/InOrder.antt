@@ -1,7 +1,7 @@
 -- Lists that are fine: each answer in order as one of its node's; lists whose words are counted right; and that these lie inside the store.
 -- Assumes nothing.
 use Rattle.units.proofs.Common.{◌∙◌, ◌≡◌, refl, ap, true, cond, List, [], ◌∷◌, ◌++◌, map, ℕ, ◌≤◌, ◌+◌, ◌<◌, suc, ◌*◌, zero, add-zero}
-use Rattle.units.proofs.Common.{zero-add, arith, eqb, length, get_or, length-append, length-map, List·getD-map, List·getD-append, eqb-true}
+use Rattle.units.proofs.Common.{zero-add, arith, eqb, length, get_or, length-append, length-map, get_or-map, get_or-append, eqb-true}
 use Rattle.units.proofs.Common.{every, and_true}
 use native.Mathlib.Nat.{add-suc, suc-add}
 use Rattle.meaning.proofs.Terms.{Bench, added, held}
@@ -63,8 +63,8 @@ module _ (b : Bench) (store : List ℕ) where
       let x : ℕ × ℕ = get_or (m ++ spots store (suc i) ns) k (i, 0) in
       let t : ok_answer b store x.0 x.1 ≡ true =
       order_at past (m ++ spots store (suc i) ns) h k (i, 0) (rw length-append (omega arith)) in
-      let a₁ : x ≡ get_or m k (i, 0) = List·getD-append m (spots store (suc i) ns) (i, 0) k c in
-      let a₂ : get_or m k (i, 0) ≡ (i, get_or ps k 0) = List·getD-map (λ q. (i, q)) ps k 0 in
+      let a₁ : x ≡ get_or m k (i, 0) = get_or-append m (spots store (suc i) ns) (i, 0) k c in
+      let a₂ : get_or m k (i, 0) ≡ (i, get_or ps k 0) = get_or-map (λ q. (i, q)) ps k 0 in
       rw add-zero (rw (a₁, a₂) at t)
   spots_ok past i (n ∷ ns) h (suc j) l k p =
       let r = order_after past (map (λ q. (i, q)) (places_of store n.list)) (spots store (suc i) ns) h in
@@ -83,7 +83,7 @@ pub length_words : (ns : List Node) → length (words_of ns) ≡ length ns
 length_words ns = simp length-map
 
 pub words_at : (ns : List Node) (i : ℕ) → get_or (words_of ns) i 0 ≡ (list_at ns i).words.0
-words_at ns i = List·getD-map (λ n. n.list.words.0) ns i fresh_node
+words_at ns i = get_or-map (λ n. n.list.words.0) ns i fresh_node
 
 -- where each node's count of its words is right, the counts are the held words
 pub counted_is : (store : List ℕ) (ns : List Node) → every (count_right store) ns ≡ true → words_of ns ≡ helds_of store ns

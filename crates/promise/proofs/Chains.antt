@@ -1,6 +1,6 @@
 -- A chain of calls, each as promised, from a machine that is in order: it says what the meaning's run says, and means what that comes to.
 -- Assumes nothing.
-use Rattle.units.proofs.Common.{needs, sym, ◌∙◌, ◌≡◌, refl, ap, fun_ext, true, false, Bool, cond, false≢true, List, [], ◌∷◌, ℕ, suc, ◌*◌}
+use Rattle.units.proofs.Common.{rules, sym, ◌∙◌, ◌≡◌, refl, ap, fun_ext, true, false, Bool, cond, false≢true, List, [], ◌∷◌, ℕ, suc, ◌*◌}
 use Rattle.units.proofs.Common.{zero, length, get_or, replicate, length-replicate, eq-eqb, every}
 use Rattle.meaning.specs.Bench.{node_count}
 use Rattle.meaning.proofs.Terms.{Bench, full, is_reader, is_node, Gateway, fresh, Call, Said, refused, answered, queued, step, run, added}
@@ -94,7 +94,7 @@ fresh_lists = packed_ok full zero_store _ (replicate (node_count full) nothing) 
 
 pub fresh_fit : (memory : List ℕ) → length memory ≡ full.readers * full.region → unfit full (fresh_machine memory) ≡ 0
 unfolding every node_ok reader_ok plaque_ok reading_ok report_ok name_ok
-fresh_fit memory b = fit full (fresh_machine memory) (search (needs, zeros_long, fresh_lists))
+fresh_fit memory b = fit full (fresh_machine memory) (search (rules, zeros_long, fresh_lists))
 
 in_row : {A : Type 0} (P : A → Type 0) (k i : ℕ) (x d : A) → P x → P d → P (get_or (replicate k x) i d)
 in_row P zero i x d p q = q

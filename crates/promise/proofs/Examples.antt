@@ -1,6 +1,6 @@
 -- The examples of specs/Examples hold; the checker computes them.
 -- Assumes nothing.
-use Rattle.units.proofs.Common.{needs, sym, ◌∙◌, ◌≡◌, refl, ap, subst, true, Bool, cond, ◌&&◌, List, [], ◌∷◌, ◌++◌, map, ℕ, ◌+◌, leb, lit<}
+use Rattle.units.proofs.Common.{rules, sym, ◌∙◌, ◌≡◌, refl, ap, subst, true, Bool, cond, ◌&&◌, List, [], ◌∷◌, ◌++◌, map, ℕ, ◌+◌, leb, lit<}
 use Rattle.units.proofs.Common.{replicate, leb-true, yes_cond, and_true}
 use Rattle.units.specs.Count as Count
 use Rattle.units.specs.Stamp as Stamps
@@ -161,9 +161,9 @@ unfolding Count.every Stamps.last_day Stamps.is_stamp Refusal.refusal Packet.cou
     States.emptied_node O.expected M.fresh M.taken C.arrived C.run D.kept D.spared D.stays D.struck D.line D.log at_ease_t at_ease visit
     visit_alone crowding going_on zero_store
 computed = record {
-  searched = search needs;
-  read = search needs;
-  read_alone = search needs;
+  searched = search rules;
+  read = search rules;
+  read_alone = search rules;
   both = refl;
   four = refl;
   acked = record { lists = refl; nodes = refl; rest = refl; long = refl };

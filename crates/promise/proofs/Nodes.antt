@@ -1,6 +1,6 @@
 -- The lists changed, and nothing else: one node's, as an answer joins or leaves, or all of them; and the name changed.
 -- Assumes nothing.
-use Rattle.units.proofs.Common.{needs, sym, ◌∙◌, ◌≡◌, refl, ap, subst, true, false, Bool, cond, ◌&&◌, List, [], ◌∷◌, map, ℕ, ◌+◌, arith}
+use Rattle.units.proofs.Common.{rules, sym, ◌∙◌, ◌≡◌, refl, ap, subst, true, false, Bool, cond, ◌&&◌, List, [], ◌∷◌, map, ℕ, ◌+◌, arith}
 use Rattle.units.proofs.Common.{eqb, leb, length, take, set, length-set, length-map, le-leb, every, and_true}
 use Rattle.units.specs.declared.Words.{Words}
 use Rattle.meaning.proofs.Terms.{Bench, is_node, Gateway, set_node, onward, Sweep, clearing, resetting, none, emptied, swept, sweep, held}
@@ -80,18 +80,18 @@ module _ (b : Bench) (m : Machine) (p : Parts b m) where
         (nodes_in store' s'.nodes) held ∙ n in
         let o : every node_ok s'.nodes ≡ true = handovers store' s'.nodes ∙ ap (every numbered) a.nodes ∙ h in
         let long = a.long ∙ p.store in
-        subst (λ (t : State). Parts b (machine t store' m.memory)) (sym a.rest) (search needs)
+        subst (λ (t : State). Parts b (machine t store' m.memory)) (sym a.rest) (search rules)
 
   -- node n is another
   module _ (n : ℕ) (is : is_node b n ≡ true) (x : M.Node) (h : numbered x ≡ true) (store' : List ℕ) (s' : State)
-      (a : Listed b m.store store' m.state s' (set now (node_slot b n) x)) where
+      (a : Listed b m.store store' m.state s' (set (node_slot b n).now x)) where
     pub node_changed : Means b (machine s' store' m.memory) (set_node n x (meaning b m))
     unfolding meaning nodes_of
     node_changed = record {
-      fit = fit b _ (listed_fit store' s' _ a (length-set now (node_slot b n) x ∙ many)
-          (every_set numbered now (node_slot b n) x all_numbered h));
+      fit = fit b _ (listed_fit store' s' _ a (length-set (node_slot b n).now x ∙ many)
+          (every_set numbered (node_slot b n).now x all_numbered h));
       means = listed_means store' s' _ a
-          ∙ ap among (seen_set (is_node b) (node_slot b) plain now n x is (node_inside b n (length now) is many)
+          ∙ ap among (seen_set (is_node b) (node_slot b) plain n.now x is (node_inside b n (length now) is many)
           (λ k q r. node_inj b k n is q r));
     }
 
@@ -101,8 +101,8 @@ module _ (b : Bench) (m : Machine) (p : Parts b m) where
     pub nodes_swept : Means b (machine s' store' m.memory) (sweep z (meaning b m))
     unfolding meaning nodes_of
     nodes_swept = record {
-      fit = fit b _ (listed_fit store' s' _ a (length-map now (swept z) ∙ many) (every_swept z now all_numbered));
-      means = listed_means store' s' _ a ∙ ap among (seen_map (is_node b) (node_slot b) plain now (swept z) d);
+      fit = fit b _ (listed_fit store' s' _ a (length-map (swept z).now ∙ many) (every_swept z all_numbered.now));
+      means = listed_means store' s' _ a ∙ ap among (seen_map (is_node b) (node_slot b) plain (swept z).now d);
     }
 
 -- ---- the name replaced
@@ -113,4 +113,4 @@ pub name_changed : (b : Bench) (m : Machine) (t : Name) → unfit b m ≡ 0 → 
     → (s : List ℕ) → take t.length.0 t.bytes ≡ s
     → Means b (machine (with_name m.state t) m.store m.memory) (set_name s (meaning b m))
 unfolding meaning
-name_changed b m t u o l s e = let p = parts b m u in record { fit = fit b _ (search needs); means = rw e }
+name_changed b m t u o l s e = let p = parts b m u in record { fit = fit b _ (search rules); means = rw e }

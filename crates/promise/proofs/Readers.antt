@@ -1,6 +1,6 @@
 -- One reader changed, with its region; and the changes that the calls make.
 -- Assumes nothing.
-use Rattle.units.proofs.Common.{needs, sym, ◌∙◌, ◌≡◌, refl, ap, fun_ext, true, false, Bool, cond, List, ℕ, ◌≤◌, ◌-◌, ◌+◌, arith, eqb, leb}
+use Rattle.units.proofs.Common.{rules, sym, ◌∙◌, ◌≡◌, refl, ap, fun_ext, true, false, Bool, cond, List, ℕ, ◌≤◌, ◌-◌, ◌+◌, arith, eqb, leb}
 use Rattle.units.proofs.Common.{length, get_or, set, length-set, eq-eqb, le-leb, eqb-true, leb-true, eqb-false, every, and_true, yes_cond}
 use Rattle.units.proofs.Common.{no_cond}
 use Rattle.units.specs.declared.Bytes.{Bytes}
@@ -80,7 +80,7 @@ module _ (b : Bench) (m : Machine) (n : ℕ) (is : is_reader b n ≡ true) (x : 
         let memory = h.long ∙ p.memory in
         let readers = every_set (reader_ok b) m.state.readers (n - 1) x p.readers o in
         let each = length-set m.state.readers (n - 1) x ∙ p.each_reader in
-        search needs
+        search rules
 
     pub reader_changed : unfit b m ≡ 0 → reader_ok b x ≡ true → (r : M.Reader) → reader_of x (region_of b memory' n) ≡ r
         → Means b (machine (with_reader m.state (n - 1) x) m.store memory') (set_reader n r (meaning b m))

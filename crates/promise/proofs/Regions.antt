@@ -1,7 +1,7 @@
 -- Writing into one reader's region of the plaque memory.
 -- Assumes nothing.
 use Rattle.units.proofs.Common.{sym, ◌∙◌, ◌≡◌, refl, ap, subst, inl, inr, ◌⊎◌, true, List, ◌++◌, append_assoc, ℕ, ◌≤◌, ◌-◌, ◌+◌, ◌<◌, suc}
-use Rattle.units.proofs.Common.{◌*◌, zero, min, arith, length, drop, get_or, take, length-drop, length-take, List·getD-append, length-take-le}
+use Rattle.units.proofs.Common.{◌*◌, zero, min, arith, length, drop, get_or, take, length-drop, length-take, get_or-append, length-take-le}
 use Rattle.units.proofs.Common.{get_or-drop, paste, slice, get_or-take, ext_get_or, get_or-append-add}
 use native.Mathlib.Nat.{mul-le-mul_right}
 use lib.Seq.{length-slice, length-paste, length_paste_head}
@@ -16,7 +16,7 @@ module _ (d : List ℕ) (at : ℕ) (s : List ℕ) (n : ℕ) (hd : at + n ≤ len
   paste_before i h =
       let l : length (take at d) ≡ at = length-take-le at d (omega arith) in
       ap (λ t. get_or t i 0) (append_assoc (take at d) (take n s) (drop (at + n) d))
-      ∙ List·getD-append (take at d) (take n s ++ drop (at + n) d) 0 i (omega arith) ∙ get_or-take at d i 0 h
+      ∙ get_or-append (take at d) (take n s ++ drop (at + n) d) 0 i (omega arith) ∙ get_or-take at d i 0 h
 
   paste_inside : (j : ℕ) → j < n → get_or (paste d at s n) (at + j) 0 ≡ get_or s j 0
   paste_inside j h =
@@ -25,7 +25,7 @@ module _ (d : List ℕ) (at : ℕ) (s : List ℕ) (n : ℕ) (hd : at + n ≤ len
       ap (λ t. get_or t (at + j) 0) (append_assoc (take at d) (take n s) (drop (at + n) d))
       ∙ ap (λ (t : ℕ). get_or (take at d ++ (take n s ++ drop (at + n) d)) (t + j) 0) (sym l)
       ∙ get_or-append-add (take at d) (take n s ++ drop (at + n) d) j 0
-      ∙ List·getD-append (take n s) (drop (at + n) d) 0 j (omega arith) ∙ get_or-take n s j 0 h
+      ∙ get_or-append (take n s) (drop (at + n) d) 0 j (omega arith) ∙ get_or-take n s j 0 h
 
   paste_after : (i : ℕ) → at + n ≤ i → get_or (paste d at s n) i 0 ≡ get_or d i 0
   paste_after i h =

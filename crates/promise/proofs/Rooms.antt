@@ -1,7 +1,7 @@
 -- An answer joins: its room, as the meaning judges it and as the code does over the held words; and what the machine means after.
 -- Assumes nothing.
 use Rattle.units.proofs.Common.{sym, ◌∙◌, ◌≡◌, refl, ap, true, false, Bool, List, [], map, ℕ, ◌≤◌, ◌-◌, ◌+◌, suc, zero, max, arith, leb}
-use Rattle.units.proofs.Common.{length, get_or, take, set, length-set, length-map, List·getD-map, take_all, le-leb, leb-true, every, no_cond}
+use Rattle.units.proofs.Common.{length, get_or, take, set, length-set, length-map, get_or-map, take_all, le-leb, leb-true, every, no_cond}
 use Rattle.units.proofs.Common.{and_true}
 use Rattle.meaning.proofs.Terms.{Bench, hub, is_reader, is_node, word_no, Gateway, joined, join, added, held, share_of, charges, fits}
 use Rattle.meaning.specs.Gateway as M
@@ -48,7 +48,7 @@ module _ (b : Bench) (ok : Sound b) (g : Gateway) (ns : List M.Node) (long : len
   charge_at : (k : ℕ) → is_node b k ≡ true → charge b (g.nodes k) ≡ max b.share (get_or helds (node_slot b k) 0)
   unfolding charge share_of seen added
   charge_at k p =
-      let e : get_or helds (node_slot b k) 0 ≡ held (get_or ns (node_slot b k) plain) = List·getD-map held ns (node_slot b k) plain in
+      let e : get_or helds (node_slot b k) 0 ≡ held (get_or ns (node_slot b k) plain) = get_or-map held ns (node_slot b k) plain in
       rw (table, p, e)
 
   charges_table : charges b g ≡ charges_of b.share helds
@@ -80,7 +80,7 @@ module _ (b : Bench) (m : Machine) (n : ℕ) (w : List ℕ) (is : is_node b n �
 
   held_in : held ((meaning b m).nodes n) ≡ get_or hs i 0
   unfolding added
-  held_in = ap held (node_at b m n is) ∙ sym (List·getD-map held ns i plain) ∙ ap (λ (l : List ℕ). get_or l i 0) (sym helds_are)
+  held_in = ap held (node_at b m n is) ∙ sym (get_or-map held ns i plain) ∙ ap (λ (l : List ℕ). get_or l i 0) (sym helds_are)
 
   join_table : (join n w (meaning b m)).nodes ≡ seen (is_node b) (node_slot b) plain (set ns i (joined w ((meaning b m).nodes n)))
   unfolding meaning nodes_of

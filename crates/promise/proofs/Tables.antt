@@ -2,7 +2,7 @@
 -- and a store to one slot is `put` at its node.
 -- Assumes nothing.
 use Rattle.units.proofs.Common.{sym, ◌∙◌, ◌≡◌, refl, ap, fun_ext, true, false, Bool, cond, false≢true, true≢false, ◌||◌, List, map, ℕ, ◌≤◌}
-use Rattle.units.proofs.Common.{◌-◌, ◌+◌, ◌<◌, arith, eqb, leb, length, get_or, set, List·getD-map, get_or-set_same, ne_eqb, eqb-true, leb-true}
+use Rattle.units.proofs.Common.{◌-◌, ◌+◌, ◌<◌, arith, eqb, leb, length, get_or, set, get_or-map, get_or-set_same, ne_eqb, eqb-true, leb-true}
 use Rattle.units.proofs.Common.{lt-leb, eqb-false, and_true, yes_cond, no_cond, yes_or, no_or}
 use lib.Seq.{get_or-set_other}
 use Rattle.meaning.proofs.Terms.{Bench, hub, is_reader, is_node, put}
@@ -32,7 +32,7 @@ module _ {A : Type 0} (ok : ℕ → Bool) (slot : ℕ → ℕ) (d : A) (l : List
   seen_map f e = fun_ext (λ n. by_test n (ok n))
     where
       by_test : (n : ℕ) (t : Bool) → cond t (get_or (map f l) (slot n) d) d ≡ f (cond t (get_or l (slot n) d) d)
-      by_test n true = ap (get_or (map f l) (slot n)) (sym e) ∙ List·getD-map f l (slot n) d
+      by_test n true = ap (get_or (map f l) (slot n)) (sym e) ∙ get_or-map f l (slot n) d
       by_test n false = sym e
 
 -- ---- the slots of readers and nodes

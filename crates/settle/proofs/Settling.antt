@@ -1,7 +1,7 @@
 -- The seam, once for every call: an answer that is due, whatever the effect, is refused by 13 on any machine, or joins its node's list.
 -- Assumes nothing.
 use Rattle.units.proofs.Common.{sym, ◌∙◌, ◌≡◌, refl, ap, subst, true, false, List, ℕ, ◌≤◌, ◌<◌, arith, leb, length, get_or, set, length-map}
-use Rattle.units.proofs.Common.{List·getD-map, leb-true, every, and_true}
+use Rattle.units.proofs.Common.{get_or-map, leb-true, every, and_true}
 use Rattle.units.specs.declared.Words.{Words}
 use Rattle.meaning.specs.Bench.{node_count}
 use Rattle.meaning.proofs.Terms.{full, is_node, well_formed, Gateway, join, fits, refused, queued, Try, settled}
@@ -63,7 +63,7 @@ few m fit i h =
     let l : length (counts m.state.held) ≡ node_count full = length-map m.state.held (λ (w : Words). w.0) ∙ p.each_held in
     let b : get_or (counts m.state.held) i 0 ≤ full.limit =
     leb-true _ _ (every_get (λ h. leb h full.limit) (counts m.state.held) i 0 o.0 (omega arith)) in
-    let g : get_or (counts m.state.held) i 0 ≡ (get_or m.state.held i nothing).0 = List·getD-map (λ (w : Words). w.0) m.state.held i
+    let g : get_or (counts m.state.held) i 0 ≡ (get_or m.state.held i nothing).0 = get_or-map (λ (w : Words). w.0) m.state.held i
     nothing in
     let a = P.answers_held full m.store m.state (sound m fit) i (omega (arith, p.each_node)) in
     omega arith

@@ -2,7 +2,7 @@
 -- Assumes nothing.
 use Rattle.units.proofs.Common.{sym, ◌∙◌, ◌≡◌, refl, ap, true, List, [], ◌∷◌, ◌++◌, map, append_assoc, append-nil, ℕ, ◌≤◌, ◌-◌, ◌+◌, ◌<◌}
 use Rattle.units.proofs.Common.{suc, zero, add-zero, zero-add, arith, leb, length, drop, get_or, take, set, replicate, length-append}
-use Rattle.units.proofs.Common.{length-map, length-replicate, List·getD-map, drop_at, take-suc, set-get_or, get_or-append-add, set_split}
+use Rattle.units.proofs.Common.{length-map, length-replicate, get_or-map, drop_at, take-suc, set-get_or, get_or-append-add, set_split}
 use Rattle.units.proofs.Common.{ne_eqb, le-leb, leb-true, every, and_true, no_cond}
 use native.Mathlib.Nat.{add-suc, suc-add}
 use lib.Seq.{take-length}
@@ -119,12 +119,12 @@ module _ (b : Bench) (store : List ℕ) (ns : List Node) (hs : List Words) (ms :
 
     -- the node counts what it means
     pub node_is : get_or ns i fresh_node ≡ node_for m
-    node_is = rw p.nodes (List·getD-map node_for ms i plain)
+    node_is = rw p.nodes (get_or-map node_for ms i plain)
 
     pub held_is : (get_or hs i nothing).0 ≡ held m
     unfolding added
     held_is =
-        sym (List·getD-map (λ (w : Words). w.0) hs i nothing) ∙ ap (λ (l : List ℕ). get_or l i 0) p.helds ∙ List·getD-map held ms i plain
+        sym (get_or-map (λ (w : Words). w.0) hs i nothing) ∙ ap (λ (l : List ℕ). get_or l i 0) p.helds ∙ get_or-map held ms i plain
 
     -- what lies before its answers, and behind them
     abbrev before : List ℕ
@@ -233,7 +233,7 @@ module _ (b : Bench) (store : List ℕ) (ns : List Node) (hs : List Words) (ms :
           let q : x.pending ≡ rest = ap (drop 1) e in
           let c : length m.pending - 1 ≡ length x.pending = rw e (omega arith) in
           let y : held x ≡ added rest = ap added q in
-          let g : get_or (map held ms) i 0 ≡ held m = List·getD-map held ms i plain in
+          let g : get_or (map held ms) i 0 ≡ held m = get_or-map held ms i plain in
           let u : length (laid m.pending) ≡ length a + length (laid rest) = rw e (simp length-append) in
           let end : place_of (counts hs) (length ms) ≡ length before + (length a + length (laid rest ++ after)) =
           end_is ∙ all_size ∙ rw (u, length-append) (omega arith) in

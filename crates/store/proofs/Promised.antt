@@ -1,7 +1,7 @@
 -- The changes as the code promises them, and what the code has to know to make them: places lie in the store, counts fit. Any bench.
 -- Assumes nothing.
 use Rattle.units.proofs.Common.{sym, ◌∙◌, ◌≡◌, refl, ap, true, List, [], ◌∷◌, map, ℕ, ◌≤◌, ◌-◌, ◌+◌, ◌<◌, suc, ◌*◌, zero, add-zero, add-one}
-use Rattle.units.proofs.Common.{arith, leb, length, drop, get_or, set, replicate, length-append, length-map, length-replicate, List·getD-map}
+use Rattle.units.proofs.Common.{arith, leb, length, drop, get_or, set, replicate, length-append, length-map, length-replicate, get_or-map}
 use Rattle.units.proofs.Common.{leb-true, every, and_true}
 use Rattle.units.specs.declared.Words.{Words}
 use Rattle.meaning.proofs.Terms.{Bench, Sweep, joined, swept, overall, well_formed, added, held}
@@ -89,7 +89,7 @@ module _ (b : Bench) (store : List ℕ) (s : State) (ok : Sound b store s) where
     pub place_after : place_of hs (i + 1) ≡ place_of hs i + (get_or s.held i nothing).0
     place_after =
         place_suc hs i (omega (arith, helds_long)) ∙ ap (λ (k : ℕ). place_of hs i + k)
-        (List·getD-map (λ (w : Words). w.0) s.held i nothing)
+        (get_or-map (λ (w : Words). w.0) s.held i nothing)
 
     -- ---- an answer joins
     pub record Join (a : List ℕ) (k : ℕ) : Type 0 where
@@ -112,7 +112,7 @@ module _ (b : Bench) (store : List ℕ) (s : State) (ok : Sound b store s) where
       joined_bounded : bounded b (map held (set ms i (joined a (get_or ms i plain)))) ≡ true
       unfolding joined added
       joined_bounded =
-          let g : get_or (map held ms) i 0 ≡ held (get_or ms i plain) = List·getD-map held ms i plain in
+          let g : get_or (map held ms) i 0 ≡ held (get_or ms i plain) = get_or-map held ms i plain in
           let f = formed_says b (node_at b i) a j.answer in
           let e : set hs i (get_or hs i 0 + length a) ≡ map held (set ms i (joined a (get_or ms i plain))) =
           rw (packed_sound.helds, g, map_set, added_append, f, add-zero) in
@@ -124,7 +124,7 @@ module _ (b : Bench) (store : List ℕ) (s : State) (ok : Sound b store s) where
           let l : k ≡ length ms = q ∙ sym (length_nodes store ns) in
           let o = and_true (every (λ h. leb h b.limit) (set hs i (get_or hs i 0 + length a))) _ after_bounded in
           let c : charges_of b.share (set hs i (get_or hs i 0 + length a)) ≤ b.store = leb-true _ _ o.1 in
-          let e : get_or hs i 0 ≡ (get_or s.held i nothing).0 = List·getD-map (λ (w : Words). w.0) s.held i nothing in
+          let e : get_or hs i 0 ≡ (get_or s.held i nothing).0 = get_or-map (λ (w : Words). w.0) s.held i nothing in
           let all : place_of hs k ≡ sum hs = place_all hs k (omega (arith, helds_long)) in
           record {
             ordered = omega (arith, all, place_in hs (i + 1));

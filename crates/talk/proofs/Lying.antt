@@ -1,7 +1,7 @@
 -- On a consistent machine the lent store is the one that the gateway's lists make: the words of a look are those of the definition.
 -- Assumes nothing.
 use Rattle.units.proofs.Common.{sym, ◌∙◌, ◌≡◌, refl, ap, inl, inr, ◌⊎◌, true, List, [], ◌∷◌, ◌++◌, ℕ, ◌≤◌, ◌-◌, ◌+◌, ◌<◌, suc, zero, arith}
-use Rattle.units.proofs.Common.{length, get_or, length-append, List·getD-append, ext_get_or, le-leb}
+use Rattle.units.proofs.Common.{length, get_or, length-append, get_or-append, ext_get_or, le-leb}
 use Rattle.meaning.proofs.Terms.{Bench, hub, is_reader, Node}
 use Rattle.demands.specs.Sound.{Sound}
 use Rattle.machine.proofs.Terms.{store_of, Machine, meaning, nodes_in, plain, unfit}
@@ -27,7 +27,7 @@ first_at : (n : ℕ) (f : ℕ → Node) (i : ℕ) → i < n → get_or (first_no
 unfolding first_nodes
 first_at zero f i h = absurd (omega (arith, h))
 first_at (suc n) f i h = elim (below_or i n) [
-  | inl l ↦ List·getD-append (first_nodes n f) (f (suc n) ∷ []) plain i (omega (arith, l, length_first n f)) ∙ first_at n f i l
+  | inl l ↦ get_or-append (first_nodes n f) (f (suc n) ∷ []) plain i (omega (arith, l, length_first n f)) ∙ first_at n f i l
   | inr l ↦
       let e : suc n ≡ i + 1 = omega arith in
       next_at (first_nodes n f) (f (suc n)) i (omega (arith, l, length_first n f)) ∙ ap f e
@@ -58,7 +58,7 @@ module _ (b : Bench) (ok : Sound b) (m : Machine) (fits : unfit b m ≡ 0) where
           ap (λ (k : ℕ). get_or nodes k plain) (sym (reader_slot b ok (i + 1) r ∙ s))
           ∙ sym (node_at b m (i + 1) (reader_node b (i + 1) r))
           ∙ sym (first_at b.readers f i l)
-          ∙ sym (List·getD-append (first_nodes b.readers f) (f hub ∷ []) plain i (omega (arith, l, length_first b.readers f)))
+          ∙ sym (get_or-append (first_nodes b.readers f) (f hub ∷ []) plain i (omega (arith, l, length_first b.readers f)))
       by_place (inr l) =
           let s : b.readers ≡ i = omega arith in
           ap (λ (k : ℕ). get_or nodes k plain) (sym s)

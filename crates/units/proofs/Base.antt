@@ -11,7 +11,7 @@ pub use native.Mathlib.Decide.{ℕ_discrete}
 pub use native.Mathlib.Omega.{arith}
 pub use lib.Dec.{eqb, leb, ltb, T, lit≤, lit<}
 pub use lib.ListN.{length, drop, get_or, take, set, length-drop, replicate, length-set, drop_of_length-le, length-append, length-map}
-pub use lib.ListN.{length-replicate, length-take, get_or-map as List·getD-map, get_or-append as List·getD-append, take-append-drop, get_or-eq_default as List·getD-eq-default}
+pub use lib.ListN.{length-replicate, length-take, get_or-map, get_or-append, take-append-drop, get_or-eq_default}
 pub use lib.Seq.{length-take-le, take_all, sets, get_or-drop, paste, drop-drop, slice, take_at, drop_at, take-suc, drop-cons, get_or-take}
 pub use lib.Seq.{ext_get_or, set-get_or, take-add, take-nil, take-suc-set, paste-suc, get_or-set_same, get_or-append-add, set_split, sets-eq}
 pub use lib.Seq.{take-take, length-sets}

@@ -5,12 +5,12 @@ pub use Rattle.units.proofs.Base.{false≢true, true≢false, ◌||◌, and-fals
 pub use Rattle.units.proofs.Base.{◌≤◌, ◌-◌, ◌+◌, ◌<◌, suc, ◌*◌, zero, ◌%◌, ◌^◌, ◌/◌, min, max, add-zero, zero-add, le_refl, add-one}
 pub use Rattle.units.proofs.Base.{ℕ_discrete, arith, eqb, leb, ltb, T, lit≤, lit<, length, drop, get_or, take, set, length-drop}
 pub use Rattle.units.proofs.Base.{replicate, length-set, drop_of_length-le, length-append, length-map, length-replicate, length-take}
-pub use Rattle.units.proofs.Base.{List·getD-map, List·getD-append, take-append-drop, List·getD-eq-default, length-take-le, take_all}
+pub use Rattle.units.proofs.Base.{get_or-map, get_or-append, take-append-drop, get_or-eq_default, length-take-le, take_all}
 pub use Rattle.units.proofs.Base.{sets, get_or-drop, paste, drop-drop, slice, take_at, drop_at, take-suc, drop-cons, get_or-take}
 pub use Rattle.units.proofs.Base.{ext_get_or, set-get_or, take-add, take-nil, take-suc-set, paste-suc, get_or-set_same, get_or-append-add}
-pub use Rattle.units.proofs.Base.{set_split, sets-eq, length-sets, take-take, now, NamedLft, RefT, eq-eqb, ne_eqb, le-leb, not-false}
+pub use Rattle.units.proofs.Base.{set_split, sets-eq, length-sets, take-take, NamedLft, Bor, MutBor, eq-eqb, ne_eqb, le-leb, not-false}
 pub use Rattle.units.proofs.Base.{not-true}
-pub use Rattle.units.proofs.Base.{eqb-true, leb-true, lt-leb, le-ltb, ltb-false, lt-ltb, eqb-false, ltb-true, needs}
+pub use Rattle.units.proofs.Base.{eqb-true, leb-true, lt-leb, le-ltb, ltb-false, lt-ltb, eqb-false, ltb-true, rules}
 unfoldable pub use Rattle.units.specs.Count.{every}
 pub use Rattle.units.specs.Count.{within}
 pub use Rattle.units.specs.Packing.{bytes_of, packed}

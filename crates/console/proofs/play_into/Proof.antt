@@ -1,6 +1,6 @@
 -- What is lent to a call comes back as long as it was, and the machine stays consistent.
 -- Assumes nothing.
-use Rattle.units.proofs.Common.{sym, ◌≡◌, refl, ℕ, ◌≤◌, ◌-◌, arith, length, replicate, length-replicate, length-take-le, needs}
+use Rattle.units.proofs.Common.{sym, ◌≡◌, refl, ℕ, ◌≤◌, ◌-◌, arith, length, replicate, length-replicate, length-take-le, rules}
 use Rattle.meaning.proofs.Terms.{full}
 use Rattle.machine.proofs.Terms.{machine, unfit}
 use Rattle.promise.proofs.Parts.{parts}
@@ -63,10 +63,10 @@ answer-requires c κs =
     (v.4, omega (arith, last-long c.before.before.before, v, s.requires))
 
 pub play-into-spec : {M : Type 1} → statement M
-play-into-spec = tie.close (tie.spec invariant-loop decreases-loop (λ c. search needs) (λ c κs. search needs) loop-holds
-    (λ c. sym c.before.before.loop.invariant.0) (λ c κs. search needs) (λ c. search needs) (λ c κs. search needs)
+play-into-spec = tie.close (tie.spec invariant-loop decreases-loop (λ c. search rules) (λ c κs. search rules) loop-holds
+    (λ c. sym c.before.before.loop.invariant.0) (λ c κs. search rules) (λ c. search rules) (λ c κs. search rules)
     (λ c. c.before.before.before.before.before.before.before.before.loop.invariant.3)
-    (λ c. search needs)
+    (λ c. search rules)
     (λ c. sym c.before.before.before.before.before.before.before.before.loop.invariant.1)
     prefix piece-long
     (λ c. sym (parts full _ c.before.before.before.before.before.before.before.before.before.before.loop.invariant.4).store)
@@ -76,11 +76,11 @@ play-into-spec = tie.close (tie.spec invariant-loop decreases-loop (λ c. search
     (λ c. let p = c.before.before.before.before.before.before.before in
     let v = p.before.before.before.before.before.before.before.before.before.before.before.before.before.loop.invariant in
     omega (arith, p.hear.auto, v))
-    (λ c. search needs) (λ c. omega arith) (λ c. omega arith) loop-again last-inside last-long
+    (λ c. search rules) (λ c. omega arith) (λ c. omega arith) loop-again last-inside last-long
     (λ c. sym (parts full _ c.before.before.before.before.loop.invariant.4).store)
     (λ c. sym (parts full _ c.before.before.before.before.before.loop.invariant.4).memory)
     answer-requires
     (λ c. let a = c.before.before.before.before.answer in
     let v = c.before.before.before.before.before.before.before.before.before.before.before.loop.invariant in
     omega (arith, a.auto, v))
-    (λ c. search needs) (λ c. c.before.before.loop.invariant.3) (λ c. search needs))
+    (λ c. search rules) (λ c. c.before.before.loop.invariant.3) (λ c. search rules))

@@ -1,5 +1,5 @@
 -- The measure is the number: its tenth is less.
-use Rattle.units.proofs.Common.{sym, ap, ℕ, ◌<◌, arith, length, length-append, needs}
+use Rattle.units.proofs.Common.{sym, ap, ℕ, ◌<◌, arith, length, length-append, rules}
 use Rattle.text.proofs.Writing.{put_then, put_as, decimal_one, decimal_more}
 use borrow.Fn.Kinds.{In}
 use borrow.Fn.PlainCycle.{Measures, is, falls, and}
@@ -30,7 +30,7 @@ put-decimal-put-requires : (t : ℕ) → put-decimal-lts.Need-put-requires (call
 put-decimal-put-requires t c κs = omega (arith, ap length (decimal_one c.before.before.before.before.args.n (omega arith)))
 
 put-decimal-same-length : (t : ℕ) → put-decimal-lts.Need-same-length (callees t) (put-decimal-at t) put-decimal.Post
-put-decimal-same-length t c = search needs
+put-decimal-same-length t c = search rules
 
 put-decimal-returns : (t : ℕ) → put-decimal-lts.Need-returns (callees t) (put-decimal-at t) put-decimal.Post
 put-decimal-returns t c =
@@ -56,7 +56,7 @@ put-decimal-put-requires-2 t c κs =
     omega (arith, p.put-decimal.ensures.next, simp length-append at (ap length (decimal_more a.n (omega arith))))
 
 put-decimal-same-length-2 : (t : ℕ) → put-decimal-lts.Need-same-length-2 (callees t) (put-decimal-at t) put-decimal.Post
-put-decimal-same-length-2 t c = search needs
+put-decimal-same-length-2 t c = search rules
 
 put-decimal-returns-2 : (t : ℕ) → put-decimal-lts.Need-returns-2 (callees t) (put-decimal-at t) put-decimal.Post
 put-decimal-returns-2 t c =

@@ -1,0 +1,11 @@
+-- The loop's invariant: the bytes from the start on are zeros exactly where those from here on are.
+use Rattle.units.proofs.Common.{sym, ◌∙◌, ◌≡◌, ◌-◌, arith, eqb, length, drop, eq-eqb, ne_eqb, rules, yes_and, no_and}
+use Rattle.machine.proofs.Terms.{zeros}
+use Rattle.state.proofs.Lists.{every_at, every_end}
+use Rattle.fit.proofs.all_zero.Given as goal
+
+abbrev pub invariant-loop-i : goal.invariant-loop-i
+invariant-loop-i l = zeros (drop l.from l.bytes) ≡ zeros (drop l.i l.bytes)
+
+abbrev pub decreases-loop-i : goal.decreases-loop-i
+decreases-loop-i l = length l.bytes - l.i

@@ -1,0 +1,11 @@
+-- The count is that of the line feeds of the blocks that were counted.
+-- Assumes nothing.
+use Rattle.units.proofs.Common.{◌≡◌, refl, ◌≤◌, ◌-◌, arith, length, drop, take, rules}
+use Rattle.gather.proofs.Counts.{feeds_in, feeds_few, block_few, block_on, rest_on}
+use Rattle.gather.proofs.all_feeds.Given as goal
+
+abbrev pub invariant-loop-at : goal.invariant-loop-at
+invariant-loop-at l = (l.at ≤ length l.bytes) × (l.n ≤ l.at) × (l.n ≡ feeds_in (take l.at l.bytes))
+
+abbrev pub decreases-loop-at : goal.decreases-loop-at
+decreases-loop-at l = length l.bytes - l.at

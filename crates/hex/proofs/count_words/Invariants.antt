@@ -1,0 +1,17 @@
+-- What is left is all words just where the whole is; the words so far and those that are left are all of them.
+-- Assumes nothing.
+use Rattle.units.proofs.Common.{sym, ◌∙◌, ◌≡◌, refl, ap, ◌≤◌, ◌-◌, ◌+◌, arith, length, not-false, not-true, every, yes_and}
+use Rattle.fields.proofs.Places.{from_past}
+use Rattle.hex.proofs.Words.{no_words, all_words}
+use Rattle.hex.proofs.Words.{word_at, first_word}
+use Rattle.fields.specs.FieldsAt.{fields_from}
+use Rattle.dialog.specs.Fields.{word_ok}
+use Rattle.dialog.proofs.FieldLaws.{nowise, clash, every_cons, every_none}
+use Rattle.hex.proofs.count_words.Given as goal
+
+abbrev pub invariant-loop-from : goal.invariant-loop-from
+invariant-loop-from l = (l.n + l.at ≤ l.from) × (every word_ok (fields_from l.line l.at) ≡ every word_ok (fields_from l.line l.from)) ×
+    (length (fields_from l.line l.at) ≡ l.n + length (fields_from l.line l.from))
+
+abbrev pub decreases-loop-from : goal.decreases-loop-from
+decreases-loop-from l = length l.line + 1 - l.from

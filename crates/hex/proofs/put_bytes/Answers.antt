@@ -1,0 +1,29 @@
+-- The dash has no bytes; any other field has those of its pairs of digits, whose number is below a word's limit.
+-- Assumes nothing.
+use Rattle.units.proofs.Common.{sym, ◌∙◌, refl, ap, ◌≤◌, arith, length, rules}
+use Rattle.dialog.proofs.HexLaws.{no_bytes, some_bytes, length_pairs, of_bytes}
+use Rattle.hex.proofs.put_bytes.Goals as goal
+
+-- LEFT cast-n
+
+pub returns-then-is_same : goal.returns-then-is_same
+returns-then-is_same c =
+    let e = no_bytes c.args.field.now (sym c.is_same.ensures ∙ c.if-is_same.true) in
+    record {
+      result_value = sym (ap length e);
+      out_after = sym (rw e refl);
+    }
+
+pub put_pairs-requires : goal.put_pairs-requires
+put_pairs-requires c =
+    let b = of_bytes c.args.most.0 c.args.field.now (sym c.is_same.ensures ∙ c.if-is_same.false) c.requires in
+    (b.even, b.digits)
+
+pub returns : goal.returns
+returns c =
+    let f = c.args.field.now in
+    let e = some_bytes f (sym c.is_same.ensures ∙ c.if-is_same.false) in
+    record {
+      result_value = sym (ap length e ∙ length_pairs f);
+      out_after = c.put_pairs.ensures ∙ sym (rw e refl);
+    }

@@ -1,0 +1,15 @@
+-- As in `put_words`, two digits a turn.
+-- Assumes nothing.
+use Rattle.units.proofs.Common.{sym, ◌∙◌, ◌≡◌, refl, ap, ◌≤◌, ◌-◌, ◌+◌, ◌*◌, add-one, arith, length, drop, length-set, sets}
+use Rattle.dialog.specs.Fields.{is_hex, pairs}
+use Rattle.dialog.proofs.FieldLaws.{every_is}
+use Rattle.units.proofs.PackingLaws.{sets_past}
+use Rattle.dialog.proofs.HexLaws.{pairs_next, pairs_end}
+use Rattle.hex.proofs.put_pairs.Given as goal
+
+abbrev pub invariant-loop-i : goal.invariant-loop-i
+invariant-loop-i l = (l.i ≤ length l.initial.out) × (l.at ≡ 2 * l.i) × (length l.out ≡ length l.initial.out) ×
+    (sets l.out l.i (pairs (drop l.at l.field)) ≡ sets l.initial.out 0 (pairs l.field))
+
+abbrev pub decreases-loop-i : goal.decreases-loop-i
+decreases-loop-i l = length l.initial.out - l.i

@@ -1,0 +1,15 @@
+-- The first word goes first: after so many steps the first words stand moved, and those still to move are untouched.
+use borrow.Author.Rules.{rules}
+use native.Mathlib.Omega.{arith}
+use Prim.Native.Nat.{◌-◌, ◌≤◌}
+use mathlib.Core.Path.{◌≡◌, refl}
+use lib.ListN.{length, take, drop, length-set}
+use lib.Seq.{sets}
+use Rattle.moves.proofs.Moves.{moved_down}
+use Rattle.moves.proofs.move_down.Given as goal
+
+abbrev pub invariant-loop-j : goal.invariant-loop-j
+invariant-loop-j l = (l.from ≤ l.j) × (l.j ≤ l.end) × (length l.words ≡ length l.initial.words) × (l.words ≡ sets l.initial.words (l.from - l.by) (take (l.j - l.from) (drop l.from l.initial.words)))
+
+abbrev pub decreases-loop-j : goal.decreases-loop-j
+decreases-loop-j l = l.end - l.j

@@ -1,0 +1,15 @@
+-- After so many steps the first words of the part are 0, and all else is as it was.
+use borrow.Author.Rules.{rules}
+use native.Mathlib.Omega.{arith}
+use Prim.Native.Nat.{◌-◌, ◌≤◌}
+use mathlib.Core.Path.{◌≡◌, refl}
+use lib.ListN.{length, replicate, length-set}
+use lib.Seq.{sets}
+use Rattle.moves.proofs.Moves.{wiped}
+use Rattle.moves.proofs.wipe_part.Given as goal
+
+abbrev pub invariant-loop-j : goal.invariant-loop-j
+invariant-loop-j l = (l.from ≤ l.j) × (l.j ≤ l.end) × (length l.words ≡ length l.initial.words) × (l.words ≡ sets l.initial.words l.from (replicate (l.j - l.from) 0))
+
+abbrev pub decreases-loop-j : goal.decreases-loop-j
+decreases-loop-j l = l.end - l.j

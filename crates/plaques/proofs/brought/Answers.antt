@@ -1,0 +1,40 @@
+-- `brought` hands back the reader with the plaque, whose bytes stand at the front of the reader's region (laws of `Placing`).
+-- Assumes nothing.
+use Rattle.units.proofs.Common.{◌∙◌, ap, true, List, ℕ, arith, length, rules}
+use Rattle.meaning.proofs.Terms.{full}
+use Rattle.promise.proofs.Tables.{reader_range}
+use Rattle.promise.proofs.Readers.{with_plaque}
+use Rattle.plaques.proofs.Placing.{Limits, limits, arrives_done}
+use Rattle.plaques.proofs.brought.Goals as goal
+
+pub overflow_sub-i : goal.overflow_sub-i
+overflow_sub-i c =
+    let within_limits : Limits c.args.node c.args.id.now c.args.bytes.now = limits c.args.node c.args.id.now c.args.bytes.now c.requires.0 in
+    omega (arith, reader_range full c.args.node (within_limits).reader)
+
+pub eight-requires : goal.eight-requires
+eight-requires c =
+    let within_limits : Limits c.args.node c.args.id.now c.args.bytes.now = limits c.args.node c.args.id.now c.args.bytes.now c.requires.0 in
+    (within_limits).eight
+
+pub overflow_cast-bytes : goal.overflow_cast-bytes
+overflow_cast-bytes c =
+    let within_limits : Limits c.args.node c.args.id.now c.args.bytes.now = limits c.args.node c.args.id.now c.args.bytes.now c.requires.0 in
+    let l = within_limits in omega (arith, l.few)
+
+pub copy_bytes-requires : goal.copy_bytes-requires
+copy_bytes-requires c =
+    let within_limits : Limits c.args.node c.args.id.now c.args.bytes.now = limits c.args.node c.args.id.now c.args.bytes.now c.requires.0 in
+    let l = within_limits in
+    omega (arith, reader_range full c.args.node l.reader, l.few, c.requires.1)
+
+pub returns : goal.returns
+returns c store =
+    let a = c.args in
+    arrives_done a.node a.own a.x a.held store a.plaques.now a.id.now a.bytes.now c.requires.0
+    (c.arrived-y.ensures ∙ ap (λ (k : List ℕ). with_plaque a.x (record {
+      present = true;
+      id = k;
+      length = record { 0 = length a.bytes.now };
+    })) c.eight.ensures)
+    _ c.copy_bytes.ensures
