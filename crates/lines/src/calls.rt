@@ -7,7 +7,7 @@ ghost use Rattle.lines.specs.Heard.{heard_of, words_in, id_in, bytes_in};
 
 use crate::{Heard, LONGEST_ID, LONGEST_PLAQUE, MOST_WORDS};
 use fields::{field_end, form_of};
-use hex::{count_words, is_bytes, put_bytes, put_words};
+use hexwords::{count_words, is_bytes, put_bytes, put_words};
 use numbers::{read_node, read_number, read_stamp};
 use units::{Bytes, Words};
 

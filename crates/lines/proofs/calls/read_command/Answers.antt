@@ -5,7 +5,7 @@ use Rattle.dialog.proofs.FieldLaws.{clash}
 use Rattle.fields.specs.declared.FormRead.{FormRead}
 use Rattle.lines.specs.Heard.{heard_of, words_in}
 use Rattle.lines.proofs.Found.{form_past, field_is, no_command}
-use Rattle.hex.proofs.Words.{words_ok, words_count}
+use Rattle.hexwords.proofs.Words.{words_ok, words_count}
 use Rattle.numbers.proofs.Numbers.{all_from, stamp_is_at}
 use Rattle.dialog.proofs.SpokenLaws.{is_command}
 use Rattle.dialog.specs.Fields.{word_ok}

@@ -3,7 +3,7 @@
 use Rattle.units.proofs.Common.{sym, ◌∙◌, ◌≡◌, refl, ap, true, false, Bool, ◌&&◌, ◌≤◌, ◌-◌, ◌+◌, arith, length, drop, get_or, every}
 use Rattle.dialog.specs.Fields.{is_hex}
 use Rattle.dialog.proofs.FieldLaws.{and_end, every_next, every_end}
-use Rattle.hex.proofs.all_hex.Goals as goal
+use Rattle.hexwords.proofs.all_hex.Goals as goal
 
 regroup : (a b c : Bool) → (a && (b && c)) ≡ ((a && b) && c)
 regroup true b c = refl

@@ -2,12 +2,12 @@
 -- Assumes nothing.
 use Rattle.units.proofs.Common.{sym, ◌∙◌, ◌≡◌, refl, ap, ◌≤◌, ◌-◌, ◌+◌, arith, length, not-false, not-true, every, yes_and}
 use Rattle.fields.proofs.Places.{from_past}
-use Rattle.hex.proofs.Words.{no_words, all_words}
-use Rattle.hex.proofs.Words.{word_at, first_word}
+use Rattle.hexwords.proofs.Words.{no_words, all_words}
+use Rattle.hexwords.proofs.Words.{word_at, first_word}
 use Rattle.fields.specs.FieldsAt.{fields_from}
 use Rattle.dialog.specs.Fields.{word_ok}
 use Rattle.dialog.proofs.FieldLaws.{nowise, clash, every_cons, every_none}
-use Rattle.hex.proofs.count_words.Goals as goal
+use Rattle.hexwords.proofs.count_words.Goals as goal
 
 pub loop-from-init : goal.loop-from-init
 loop-from-init c = (omega arith, refl, omega arith)

@@ -3,7 +3,7 @@
 use Rattle.units.proofs.Common.{sym, ◌∙◌, arith, rules}
 use Rattle.dialog.proofs.FieldLaws.{nowise}
 use Rattle.dialog.proofs.HexLaws.{of_bytes, bytes_if, bytes_dash}
-use Rattle.hex.proofs.is_bytes.Goals as goal
+use Rattle.hexwords.proofs.is_bytes.Goals as goal
 
 pub returns-then-is_same : goal.returns-then-is_same
 returns-then-is_same c = sym (bytes_dash _ c.args.field.now (sym c.is_same.ensures ∙ c.if-is_same.true))

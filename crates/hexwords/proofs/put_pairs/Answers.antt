@@ -5,7 +5,7 @@ use Rattle.dialog.specs.Fields.{is_hex, pairs}
 use Rattle.dialog.proofs.FieldLaws.{every_is}
 use Rattle.units.proofs.PackingLaws.{sets_past}
 use Rattle.dialog.proofs.HexLaws.{pairs_next, pairs_end}
-use Rattle.hex.proofs.put_pairs.Goals as goal
+use Rattle.hexwords.proofs.put_pairs.Goals as goal
 
 pub loop-i-init : goal.loop-i-init
 loop-i-init c = (omega arith, omega arith, refl, refl)

@@ -3,12 +3,12 @@
 use Rattle.units.proofs.Common.{sym, ◌∙◌, ◌≡◌, refl, ap, true, List, map, ℕ, ◌≤◌, ◌-◌, add-one, arith, length, length-set, sets, every}
 use Rattle.dialog.proofs.FieldLaws.{every_split}
 use Rattle.fields.proofs.Places.{from_past}
-use Rattle.hex.proofs.Words.{word_at, first_word}
+use Rattle.hexwords.proofs.Words.{word_at, first_word}
 use Rattle.fields.specs.FieldsAt.{fields_from}
-use Rattle.hex.specs.WordsAt.{words_from}
+use Rattle.hexwords.specs.WordsAt.{words_from}
 use Rattle.dialog.specs.Fields.{word_ok, word_of}
 use Rattle.units.proofs.PackingLaws.{sets_past}
-use Rattle.hex.proofs.put_words.Goals as goal
+use Rattle.hexwords.proofs.put_words.Goals as goal
 
 pub loop-i-init : goal.loop-i-init
 loop-i-init c = (omega arith, refl, refl, c.requires)

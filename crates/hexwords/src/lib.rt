@@ -8,7 +8,7 @@ ghost use Rattle.std.proofs.lemmas.List.Edits.{sets};
 ghost use Rattle.dialog.specs.Fields.{is_hex, hex_digit, word_ok, word_of, bytes_ok, pairs, bytes_of_hex};
 ghost use Rattle.dialog.specs.Spoken.{field};
 ghost use Rattle.fields.specs.FieldsAt.{fields_from};
-ghost use Rattle.hex.specs.WordsAt.{words_at, words_from};
+ghost use Rattle.hexwords.specs.WordsAt.{words_at, words_from};
 
 use fields::{goes_on, is_same};
 use numbers::{both, is_within};

@@ -4,7 +4,7 @@ use Rattle.std.specs.Prelude.{ℕ, cond, List, map, length}
 use Rattle.units.specs.Count.{every}
 use Rattle.dialog.specs.Fields.{word_ok, word_of}
 use Rattle.fields.specs.FieldsAt.{fields_from}
-use Rattle.hex.specs.declared.WordsRead.{WordsRead}
+use Rattle.hexwords.specs.declared.WordsRead.{WordsRead}
 
 -- the words from a place on; where one is none, none is counted
 abbrev pub words_from : List ℕ → ℕ → List ℕ

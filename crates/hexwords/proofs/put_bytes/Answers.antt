@@ -2,7 +2,7 @@
 -- Assumes nothing.
 use Rattle.units.proofs.Common.{sym, ◌∙◌, refl, ap, ◌≤◌, arith, length, rules}
 use Rattle.dialog.proofs.HexLaws.{no_bytes, some_bytes, length_pairs, of_bytes}
-use Rattle.hex.proofs.put_bytes.Goals as goal
+use Rattle.hexwords.proofs.put_bytes.Goals as goal
 
 -- LEFT cast-n
 

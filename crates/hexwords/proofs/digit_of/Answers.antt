@@ -3,7 +3,7 @@
 use Rattle.units.proofs.Common.{sym, ◌∙◌, ◌≡◌, ⊎_elim, true, ℕ, ◌+◌, ◌<◌, ◌*◌, ◌%◌, ◌/◌, arith, rules}
 use Rattle.dialog.specs.Fields.{is_hex, hex_digit}
 use Rattle.dialog.proofs.HexLaws.{hex_cases, digit_low, digit_upper, digit_lower}
-use Rattle.hex.proofs.digit_of.Goals as goal
+use Rattle.hexwords.proofs.digit_of.Goals as goal
 
 value : (c : ℕ) → is_hex c ≡ true → (c % 16 + c / 64 * 9 ≡ hex_digit c) × (c % 16 + c / 64 * 9 < 16)
 value c h =

@@ -7,8 +7,8 @@ use Rattle.dialog.specs.Spoken.{field}
 use Rattle.dialog.proofs.FieldLaws.{both, and_end, next, every_is}
 use Rattle.dialog.proofs.HexLaws.{word_length, word_digits}
 use Rattle.fields.specs.FieldsAt.{fields_from, FieldAt}
-use Rattle.hex.specs.WordsAt.{words_at}
-use Rattle.hex.specs.declared.WordsRead.{WordsRead}
+use Rattle.hexwords.specs.WordsAt.{words_at}
+use Rattle.hexwords.specs.declared.WordsRead.{WordsRead}
 use Rattle.fields.proofs.Places.{from_some, ends, through}
 
 -- two tests that say yes of the same say the same

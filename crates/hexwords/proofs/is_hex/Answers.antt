@@ -1,6 +1,6 @@
 -- The three tests are those of the definition, in its order.
 -- Assumes nothing.
-use Rattle.hex.proofs.is_hex.Goals as goal
+use Rattle.hexwords.proofs.is_hex.Goals as goal
 
 pub returns : goal.returns
 returns c = cc

@@ -5,7 +5,7 @@ use Rattle.dialog.specs.Fields.{is_hex, pairs}
 use Rattle.dialog.proofs.FieldLaws.{every_is}
 use Rattle.units.proofs.PackingLaws.{sets_past}
 use Rattle.dialog.proofs.HexLaws.{pairs_next, pairs_end}
-use Rattle.hex.proofs.put_pairs.Given as goal
+use Rattle.hexwords.proofs.put_pairs.Given as goal
 
 abbrev pub invariant-loop-i : goal.invariant-loop-i
 invariant-loop-i l = (l.i ≤ length l.initial.out) × (l.at ≡ 2 * l.i) × (length l.out ≡ length l.initial.out) ×

@@ -1,8 +1,8 @@
 -- A word has four bytes, all digits; two bytes of two digits each are the number that four digits make.
 -- Assumes nothing.
 use Rattle.units.proofs.Common.{sym, ◌∙◌, arith, rules}
-use Rattle.hex.proofs.Words.{digit, word_value}
-use Rattle.hex.proofs.word_of.Goals as goal
+use Rattle.hexwords.proofs.Words.{digit, word_value}
+use Rattle.hexwords.proofs.word_of.Goals as goal
 
 pub byte_of-requires : goal.byte_of-requires
 byte_of-requires c =

@@ -3,7 +3,7 @@
 use Rattle.units.proofs.Common.{sym, ◌∙◌, ◌≡◌, refl, ap, true, false, Bool, ◌&&◌, ◌≤◌, ◌-◌, ◌+◌, arith, length, drop, get_or, every}
 use Rattle.dialog.specs.Fields.{is_hex}
 use Rattle.dialog.proofs.FieldLaws.{and_end, every_next, every_end}
-use Rattle.hex.proofs.all_hex.Given as goal
+use Rattle.hexwords.proofs.all_hex.Given as goal
 
 abbrev pub invariant-loop-i : goal.invariant-loop-i
 invariant-loop-i l = (l.i ≤ length l.field) × (every is_hex l.field ≡ (l.all && every is_hex (drop l.i l.field)))

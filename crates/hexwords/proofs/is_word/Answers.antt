@@ -2,8 +2,8 @@
 -- Assumes nothing.
 use Rattle.units.proofs.Common.{sym, arith, rules}
 use Rattle.dialog.proofs.FieldLaws.{nowise}
-use Rattle.hex.proofs.Words.{word_at, is_word}
-use Rattle.hex.proofs.is_word.Goals as goal
+use Rattle.hexwords.proofs.Words.{word_at, is_word}
+use Rattle.hexwords.proofs.is_word.Goals as goal
 
 pub returns-then-line-at-lt4 : goal.returns-then-line-at-lt4
 returns-then-line-at-lt4 c =
