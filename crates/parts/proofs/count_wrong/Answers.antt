@@ -1,5 +1,5 @@
 -- Overall Length is compared with the words that are there.
-use Rattle.units.proofs.Common.{sym, le-ltb, lt-ltb, rules, yes_or, no_or}
+use Rattle.units.proofs.Common.{sym, le-ltb, lt-ltb, yes_or, no_or}
 use Rattle.meaning.specs.Packet.{count_wrong}
 use Rattle.parts.proofs.count_wrong.Goals as goal
 

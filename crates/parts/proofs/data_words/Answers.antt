@@ -1,5 +1,5 @@
 -- The words from 07 on; none where there are not so many.
-use Rattle.units.proofs.Common.{sym, ◌-◌, arith, length, drop, length-drop, drop_of_length-le, take_all, rules}
+use Rattle.units.proofs.Common.{sym, ◌-◌, arith, length, drop, length-drop, drop_of_length-le, take_all}
 use Rattle.parts.proofs.data_words.Goals as goal
 
 pub returns-then-fixed-body : goal.returns-then-fixed-body

@@ -1,6 +1,5 @@
 -- Overall Length is compared with what the data take.
 use Rattle.meaning.specs.Packet.{length_wrong}
-use Rattle.units.proofs.Common.{rules}
 use Rattle.parts.proofs.length_wrong.Goals as goal
 
 pub returns : goal.returns

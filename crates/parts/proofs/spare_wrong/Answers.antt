@@ -1,6 +1,5 @@
 -- The byte after the last of an odd number is in the same word, and must be 0.
 use Rattle.meaning.specs.Packet.{spare_wrong}
-use Rattle.units.proofs.Common.{rules}
 use Rattle.parts.proofs.spare_wrong.Goals as goal
 
 pub returns : goal.returns

@@ -1,5 +1,5 @@
 -- The word by the paper's number, counted from 01; 0 where it is missing.
-use Rattle.units.proofs.Common.{sym, ◌∙◌, ◌≡◌, ap, ◌∷◌, ◌-◌, suc, arith, get_or, get_or-eq_default, rules}
+use Rattle.units.proofs.Common.{sym, ◌∙◌, ◌≡◌, ap, ◌∷◌, ◌-◌, suc, arith, get_or, get_or-eq_default}
 use Rattle.parts.proofs.word_no.Goals as goal
 
 pub returns-then-i-body : goal.returns-then-i-body
