@@ -1,7 +1,6 @@
--- The number is below 16, so 6 more reach 16 just from 10 on, as the definition has it (law `digit-is`).
+-- The number is below 16, so 6 more reach 16 just from 10 on, as the definition has it (law `digit_is`).
 -- Assumes nothing.
 use Rattle.text.proofs.Writing.{digit_is}
-use Rattle.units.proofs.Common.{rules}
 use Rattle.text.proofs.digit.Goals as goal
 
 pub returns : goal.returns

@@ -2,7 +2,6 @@
 -- Assumes nothing.
 use Rattle.text.proofs.Writing.{put_then}
 use Rattle.text.specs.Text.{byte_hex_of}
-use Rattle.units.proofs.Common.{rules}
 use Rattle.text.proofs.put_byte_hex.Goals as goal
 
 pub returns : goal.returns

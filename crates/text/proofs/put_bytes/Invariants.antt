@@ -1,7 +1,6 @@
 -- What was written and the text of the bytes to come are the whole text, at each turn.
 -- Assumes nothing.
-use Rattle.text.proofs.Writing.{put_turn, put_done, put_length, length_byte_hex, length_bytes, bytes_next}
-use Rattle.units.proofs.Common.{◌∙◌, ◌≡◌, refl, ap, ◌≤◌, ◌-◌, ◌+◌, ◌*◌, arith, length, drop, get_or, drop_of_length-le, sets}
+use Rattle.units.proofs.Common.{◌≡◌, ◌≤◌, ◌-◌, ◌+◌, ◌*◌, length, drop, sets}
 use Rattle.text.specs.Text.{bytes_hex_of}
 use Rattle.text.proofs.put_bytes.Given as goal
 

@@ -1,6 +1,6 @@
 -- What was written and the bytes to come are the whole text, at each turn.
 -- Assumes nothing.
-use Rattle.units.proofs.Common.{◌∙◌, ◌≡◌, refl, ◌≤◌, ◌-◌, ◌+◌, arith, length, drop, drop_of_length-le, sets}
+use Rattle.units.proofs.Common.{◌∙◌, refl, arith, drop_of_length-le}
 use Rattle.text.proofs.Writing.{put_turn, put_done, put_length, text_next}
 use Rattle.text.proofs.put_text.Goals as goal
 

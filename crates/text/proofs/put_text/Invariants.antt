@@ -1,7 +1,6 @@
 -- What was written and the bytes to come are the whole text, at each turn.
 -- Assumes nothing.
-use Rattle.units.proofs.Common.{◌∙◌, ◌≡◌, refl, ◌≤◌, ◌-◌, ◌+◌, arith, length, drop, drop_of_length-le, sets}
-use Rattle.text.proofs.Writing.{put_turn, put_done, put_length, text_next}
+use Rattle.units.proofs.Common.{◌≡◌, ◌≤◌, ◌-◌, ◌+◌, length, drop, sets}
 use Rattle.text.proofs.put_text.Given as goal
 
 abbrev pub invariant-loop-i : goal.invariant-loop-i
