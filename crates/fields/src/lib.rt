@@ -67,6 +67,7 @@ pub fn is_same(field: &[u8], word: &[u8]) -> bool
     true
 }
 
+#[tactic(auto, unfolding(crate::specs::FieldsAt::verb_of))]
 pub fn verb_of(field: &[u8]) -> Verb
     ensures { result ≡ verb_of field.now }
 {
