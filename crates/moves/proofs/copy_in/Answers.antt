@@ -1,12 +1,11 @@
 -- After so many steps of the loop the first words of `src` stand in `dst`, and all else is as it was; at the end that is all of them.
-use borrow.Author.Rules.{rules}
 use native.Mathlib.Omega.{arith}
 use native.Mathlib.Numerals.{add-one}
-use Prim.Native.Nat.{ℕ, ◌-◌, ◌≤◌}
+use Prim.Native.Nat.{ℕ}
 use mathlib.Core.Path.{◌≡◌, refl, ◌∙◌}
 use mathlib.Core.List.{List}
 use lib.ListN.{length, take, get_or, length-set}
-use lib.Seq.{sets, take-suc, take-length, length-take-le}
+use lib.Seq.{take-suc, take-length, length-take-le}
 use Rattle.moves.proofs.Moves.{put_next}
 use Rattle.moves.proofs.copy_in.Goals as goal
 

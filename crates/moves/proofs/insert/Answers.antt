@@ -1,5 +1,4 @@
 -- Moving up to `end` and copying into the gap is `inserted`: `insert-is` of Moves joins the two calls' promises.
-use borrow.Author.Rules.{rules}
 use native.Mathlib.Omega.{arith}
 use mathlib.Core.Path.{ap, ◌∙◌}
 use mathlib.Core.List.{List}

@@ -1,11 +1,8 @@
 -- The last word goes first: after so many steps the last words stand moved, and those still to move are untouched.
-use borrow.Author.Rules.{rules}
-use native.Mathlib.Omega.{arith}
 use Prim.Native.Nat.{◌+◌, ◌-◌, ◌≤◌}
-use mathlib.Core.Path.{◌≡◌, refl}
-use lib.ListN.{length, take, drop, length-set}
+use mathlib.Core.Path.{◌≡◌}
+use lib.ListN.{length, take, drop}
 use lib.Seq.{sets}
-use Rattle.moves.proofs.Moves.{moved_up}
 use Rattle.moves.proofs.move_up.Given as goal
 
 abbrev pub invariant-loop-j : goal.invariant-loop-j

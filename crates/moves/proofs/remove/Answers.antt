@@ -1,5 +1,4 @@
 -- Moving down and wiping what is left behind is `removed`: `remove-is` of Moves joins the two calls' promises.
-use borrow.Author.Rules.{rules}
 use native.Mathlib.Omega.{arith}
 use Prim.Native.Nat.{ℕ, ◌+◌, ◌-◌}
 use mathlib.Core.Path.{◌≡◌, ap, ◌∙◌}

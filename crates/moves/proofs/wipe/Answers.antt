@@ -1,5 +1,4 @@
 -- A part from 0 to the end is the whole: `wipe-is` of Moves.
-use borrow.Author.Rules.{rules}
 use mathlib.Core.Path.{◌∙◌}
 use Rattle.moves.proofs.Moves.{wipe_is}
 use Rattle.moves.proofs.wipe.Goals as goal

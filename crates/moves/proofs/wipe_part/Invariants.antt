@@ -1,11 +1,8 @@
 -- After so many steps the first words of the part are 0, and all else is as it was.
-use borrow.Author.Rules.{rules}
-use native.Mathlib.Omega.{arith}
 use Prim.Native.Nat.{◌-◌, ◌≤◌}
-use mathlib.Core.Path.{◌≡◌, refl}
-use lib.ListN.{length, replicate, length-set}
+use mathlib.Core.Path.{◌≡◌}
+use lib.ListN.{length, replicate}
 use lib.Seq.{sets}
-use Rattle.moves.proofs.Moves.{wiped}
 use Rattle.moves.proofs.wipe_part.Given as goal
 
 abbrev pub invariant-loop-j : goal.invariant-loop-j
