@@ -1,5 +1,5 @@
 -- The code's test for 65,535 is the definition's.
-use Rattle.units.proofs.Common.{sym, eq-eqb, ne_eqb, rules, yes_cond, no_cond}
+use Rattle.units.proofs.Common.{sym, eq-eqb, ne_eqb, yes_cond, no_cond}
 use Rattle.meaning.proofs.Terms.{onward}
 use Rattle.state.proofs.node.onward.Goals as goal
 

@@ -1,7 +1,6 @@
 -- The two IDs are the same exactly if they are from byte i on.
 -- Assumes nothing.
-use Rattle.units.proofs.Common.{sym, ◌∙◌, ◌≡◌, ◌≤◌, ◌-◌, arith, length, drop, eq-eqb, ne_eqb, rules, yes_and, no_and}
-use Rattle.meaning.proofs.Terms.{same}
+use Rattle.units.proofs.Common.{sym, ◌∙◌, ◌≡◌, arith, length, eq-eqb, ne_eqb, rules, yes_and, no_and}
 use Rattle.state.proofs.Lists.{same_at, same_end}
 use Rattle.state.proofs.reader.same_id.Goals as goal
 

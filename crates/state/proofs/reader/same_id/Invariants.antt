@@ -1,8 +1,7 @@
 -- The two IDs are the same exactly if they are from byte i on.
 -- Assumes nothing.
-use Rattle.units.proofs.Common.{sym, ◌∙◌, ◌≡◌, ◌≤◌, ◌-◌, arith, length, drop, eq-eqb, ne_eqb, rules, yes_and, no_and}
+use Rattle.units.proofs.Common.{◌≡◌, ◌≤◌, ◌-◌, drop}
 use Rattle.meaning.proofs.Terms.{same}
-use Rattle.state.proofs.Lists.{same_at, same_end}
 use Rattle.state.proofs.reader.same_id.Given as goal
 
 abbrev pub invariant-loop-i : goal.invariant-loop-i

@@ -1,5 +1,5 @@
 -- The code's test for no answers is the definition's, and so is the number that follows.
-use Rattle.units.proofs.Common.{sym, eq-eqb, ne_eqb, rules, yes_cond, no_cond}
+use Rattle.units.proofs.Common.{sym, eq-eqb, ne_eqb, yes_cond, no_cond}
 use Rattle.state.specs.State.{emptied_node}
 use Rattle.state.proofs.node.Node.emptied.Goals as goal
 

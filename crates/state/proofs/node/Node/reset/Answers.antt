@@ -1,5 +1,4 @@
 -- It is `emptied`, by that function's promise, with the count 0.
-use Rattle.units.proofs.Common.{rules}
 use Rattle.state.specs.State.{reset_node}
 use Rattle.state.proofs.node.Node.reset.Goals as goal
 

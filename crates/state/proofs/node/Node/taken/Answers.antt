@@ -1,5 +1,4 @@
 -- The number that follows is `onward`'s promise; there is an answer to take away.
-use Rattle.units.proofs.Common.{rules}
 use Rattle.state.proofs.node.Node.taken.Goals as goal
 
 pub returns : goal.returns

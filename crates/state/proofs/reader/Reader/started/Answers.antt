@@ -1,5 +1,4 @@
 -- The new reader is written out as the definition writes it; the report is `no_report`'s.
-use Rattle.units.proofs.Common.{rules}
 use Rattle.state.proofs.reader.Reader.started.Goals as goal
 
 pub returns : goal.returns
