@@ -5,7 +5,7 @@ use Rattle.units.proofs.Common.{◌≡◌, refl, true, false, Bool, cond, not, �
 use Rattle.units.proofs.Common.{length, eqb-true, within}
 use Rattle.units.specs.declared.Form.{Form}
 use Rattle.units.specs.declared.stamp.Stamp.{Stamp}
-use Rattle.meaning.proofs.Terms.{◌when◌, ◌or_else◌, refusal, named, Bench, hub, suits, shown, Node, Reader, Gateway, Field, empty, plaque}
+use Rattle.meaning.proofs.Terms.{◌when◌, ◌or_else◌, refusal, named, Bench, hub, suits, shown, Node, Reader, Field, empty, plaque}
 use Rattle.meaning.proofs.Terms.{Mode, off, on, Call, command, check, arrive, leave, collect, acknowledge, Local, collecting, acknowledging}
 use Rattle.meaning.proofs.Terms.{ranged, tagged, obeyed, repeats, looked, left, kind_in, command_in, bytes_in, at_reader, ruled, governed}
 use Rattle.meaning.proofs.Terms.{at_hub}

@@ -59,20 +59,22 @@ rise_positive k (n ∷ ns) h e =
     let le : 1 ≤ n = omega (arith, leb-true k n p.0) in
     rw (le-leb 1 n le, rise_positive n ns le p.1)
 
-above : {k n : ℕ} {ds : List Doubt} → Applies n ds → rise k (numbers ds) ≡ true → k ≤ n
+above : {n k : ℕ} {ds : List Doubt} → Applies n ds → rise k (numbers ds) ≡ true → k ≤ n
 unfolding rise numbers
-above {k} {n} (here ds) e = leb-true k n (and_true (leb k n) _ e).0
-above {k} {n} (later d {ds = ds} a) e =
+above {n} {k} (here ds) e = leb-true k n (and_true (leb k n) _ e).0
+above {n} {k} (later d {ds = ds} a) e =
     let p = and_true (leb k d.number) (rise d.number (numbers ds)) e in
     omega (arith, leb-true k d.number p.0, above a p.1)
 
 first_least : (k : ℕ) {n m : ℕ} {ds : List Doubt} → First n ds → rise k (numbers ds) ≡ true → Applies m ds → n ≤ m
 unfolding rise numbers
+first_least k {m = m} none e a = elim a [ ]
 first_least k (this n ds) e a = above a (rw (le-leb n n (le_refl n)) (and_true (leb k n) (rise n (numbers ds)) e).1)
 first_least k (next j {ds = ds} f) e (later d a) = first_least j f (and_true (leb k j) (rise j (numbers ds)) e).1 a
 
 first_some : {n m : ℕ} {ds : List Doubt} → First n ds → positive (numbers ds) ≡ true → Applies m ds → 1 ≤ n
 unfolding positive numbers
+first_some {m = m} none e a = elim a [ ]
 first_some (this n ds) e a = leb-true 1 n (and_true (leb 1 n) (positive (numbers ds)) e).0
 first_some (next j {ds = ds} f) e (later d a) = first_some f (and_true (leb 1 j) (positive (numbers ds)) e).1 a
 

@@ -1,14 +1,14 @@
 -- Closed cases of what the demands speak of: what is struck out, what a line of a log has, counts and answers counted from the calls, and
 -- each of the numbers 12 to 16 where it applies and where it just does not.
 -- Assumes nothing.
-use Rattle.std.specs.Prelude.{ℕ, Bool, true, false, not, List, [], ◌∷◌, ◌++◌, map, eqb, length, take, replicate}
+use Rattle.std.specs.Prelude.{ℕ, Bool, not, List, [], ◌∷◌, ◌++◌, map, eqb, length, take, replicate}
 use Rattle.units.specs.Word.{msb}
 use Rattle.units.specs.declared.Form.TheVariants.{Register, Framed}
 use Rattle.meaning.specs.Refusal.{refusal}
 use Rattle.meaning.specs.Bench.{full}
 use Rattle.meaning.specs.Packet.{word_no}
-use Rattle.meaning.specs.Gateway.{Node, Reader, Gateway, fresh, set_node}
-use Rattle.meaning.specs.Gateway.{Field, empty, plaque, Report, never, last, Mode, off, on}
+use Rattle.meaning.specs.Gateway.{Gateway, fresh, set_node}
+use Rattle.meaning.specs.Gateway.{Field, empty, plaque, Mode, off, on}
 use Rattle.meaning.specs.Call.{Call, command, check, arrive, leave, collect, acknowledge, Said, refused, answered, queued, done, quiet}
 use Rattle.meaning.specs.Call.{same, named, step, run}
 use Rattle.meaning.specs.Cases.{Case, ◌says◌, hex, bytes, march, midnight, search, reads, goes_on}
