@@ -1,10 +1,8 @@
 -- What was written and the text of the words to come are the whole text; the last blank gives way to a line feed.
 -- Assumes nothing.
-use Rattle.text.proofs.Writing.{put_turn, put_done, put_then, put_length, put_as}
-use Rattle.text.proofs.Writing.{spaced, length_hex, length_spaced, words_next, words_done, no_words}
-use Rattle.units.proofs.Common.{◌∙◌, ◌≡◌, refl, ap, List, ℕ, ◌≤◌, ◌-◌, ◌+◌, ◌*◌, arith, length, drop, get_or, length-set, drop_of_length-le}
+use Rattle.text.proofs.Writing.{spaced}
+use Rattle.units.proofs.Common.{◌≡◌, ◌≤◌, ◌-◌, ◌+◌, ◌*◌, length, drop}
 use Rattle.units.proofs.Common.{sets}
-use Rattle.text.specs.Text.{Put}
 use Rattle.wordsout.proofs.put_words.Given as goal
 
 abbrev pub invariant-loop-i : goal.invariant-loop-i
