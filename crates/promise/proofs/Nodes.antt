@@ -6,7 +6,7 @@ use Rattle.units.specs.declared.Words.{Words}
 use Rattle.meaning.proofs.Terms.{Bench, is_node, Gateway, set_node, onward, Sweep, clearing, resetting, none, emptied, swept, sweep, held}
 use Rattle.meaning.specs.Gateway as M
 use Rattle.meaning.specs.Gateway.{set_name}
-use Rattle.machine.proofs.Terms.{Machine, machine, meaning, seen, node_slot, nodes_in, nodes_of, plain, node_ok, name_ok, unfit}
+use Rattle.machine.proofs.Terms.{Machine, machine, meaning, seen, node_slot, nodes_in, nodes_of, plain, node_ok, name_ok, unfit, past}
 use Rattle.state.specs.declared.node.Node.{Node}
 use Rattle.state.specs.declared.Name.{Name}
 use Rattle.state.specs.declared.State.{State}
@@ -23,7 +23,7 @@ numbered x = leb 1 x.handover
 pub handovers : (w : List ℕ) (ns : List Node) → every node_ok ns ≡ every numbered (nodes_in w ns)
 unfolding every node_ok numbered nodes_in
 handovers w [] = refl
-handovers w (n ∷ ns) = ap (λ t. node_ok n && t) (handovers _ ns)
+handovers w (n ∷ ns) = ap (λ t. node_ok n && t) (handovers (past n.answers w) ns)
 
 -- the number that follows is one
 pub onward_ok : (h : ℕ) → leb 1 (onward h) ≡ true
@@ -84,14 +84,14 @@ module _ (b : Bench) (m : Machine) (p : Parts b m) where
 
   -- node n is another
   module _ (n : ℕ) (is : is_node b n ≡ true) (x : M.Node) (h : numbered x ≡ true) (store' : List ℕ) (s' : State)
-      (a : Listed b m.store store' m.state s' (set (node_slot b n).now x)) where
+      (a : Listed b m.store store' m.state s' (set now (node_slot b n) x)) where
     pub node_changed : Means b (machine s' store' m.memory) (set_node n x (meaning b m))
     unfolding meaning nodes_of
     node_changed = record {
-      fit = fit b _ (listed_fit store' s' _ a (length-set (node_slot b n).now x ∙ many)
-          (every_set numbered (node_slot b n).now x all_numbered h));
+      fit = fit b _ (listed_fit store' s' _ a (length-set now (node_slot b n) x ∙ many)
+          (every_set numbered now (node_slot b n) x all_numbered h));
       means = listed_means store' s' _ a
-          ∙ ap among (seen_set (is_node b) (node_slot b) plain n.now x is (node_inside b n (length now) is many)
+          ∙ ap among (seen_set (is_node b) (node_slot b) plain now n x is (node_inside b n (length now) is many)
           (λ k q r. node_inj b k n is q r));
     }
 
@@ -101,8 +101,8 @@ module _ (b : Bench) (m : Machine) (p : Parts b m) where
     pub nodes_swept : Means b (machine s' store' m.memory) (sweep z (meaning b m))
     unfolding meaning nodes_of
     nodes_swept = record {
-      fit = fit b _ (listed_fit store' s' _ a (length-map (swept z).now ∙ many) (every_swept z all_numbered.now));
-      means = listed_means store' s' _ a ∙ ap among (seen_map (is_node b) (node_slot b) plain (swept z).now d);
+      fit = fit b _ (listed_fit store' s' _ a (length-map now (swept z) ∙ many) (every_swept z now all_numbered));
+      means = listed_means store' s' _ a ∙ ap among (seen_map (is_node b) (node_slot b) plain now (swept z) d);
     }
 
 -- ---- the name replaced

@@ -26,14 +26,14 @@ module _ (b : Bench) (m : Machine) (n : ℕ) (fit : unfit b m ≡ 0) where
     unfolding judged asked named at_reader left field_of
     left_14 p =
         reader_called b m (leave n) fit n (none 7 (ap not is)) refl is
-        (refusing b m (set_reader n) n (ap (left _) (field_is b m n is x at ∙ no_cond _ p)))
+        (refusing b m (set_reader n) n (ap (left ((meaning b m).reader n)) (field_is b m n is x at ∙ no_cond _ p)))
 
     pub left_0 : x.plaque.present ≡ true
         → Obeyed b (leave n) m (answered done) (machine (with_reader m.state (n - 1) (with_plaque x no_plaque)) m.store m.memory)
     unfolding judged asked named at_reader left reader_of field_of
     left_0 p =
         reader_called b m (leave n) fit n (none 7 (ap not is)) refl is
-        (giving b m (set_reader n) n (ap (left _) (field_is b m n is x at ∙ yes_cond _ p)) _
+        (giving b m (set_reader n) n (ap (left ((meaning b m).reader n)) (field_is b m n is x at ∙ yes_cond _ p)) _
         (reader_changed b m n is (with_plaque x no_plaque) m.memory (untouched b n m.memory) fit
         (left_ok b x (reader_in_order b m n is x at (parts b m fit))) (set_field empty ((meaning b m).reader n))
         (ap (set_field empty) (sym (reader_is b m n is x at)))))
