@@ -24,6 +24,7 @@ fn up_to(low: u16, most: Bytes) -> Limits
 }
 
 // The effect.
+#[tactic(auto, unfolding(meaning::specs::Table::table, meaning::specs::Table::lookup, meaning::specs::Table::row_of, meaning::specs::Table::suits))]
 fn kind_of(command: u8) -> Kind
     ensures { result ≡ (row_of full command).kind }
 {
@@ -37,6 +38,7 @@ fn kind_of(command: u8) -> Kind
 }
 
 // 04 to 08, which want a plaque in the field.
+#[tactic(auto, unfolding(meaning::specs::Table::table, meaning::specs::Table::lookup, meaning::specs::Table::row_of))]
 fn on_plaque(command: u8) -> OnPlaque
     requires { (0x04 ≤ command) × (command ≤ 0x08) }
     ensures { Plaque result ≡ (row_of full command).kind }
@@ -51,6 +53,7 @@ fn on_plaque(command: u8) -> OnPlaque
 }
 
 // The commands for node 32.
+#[tactic(auto, unfolding(meaning::specs::Table::table, meaning::specs::Table::lookup, meaning::specs::Table::row_of, meaning::specs::Table::suits))]
 fn of_gateway(command: u8) -> OfGateway
     requires { suits (row_of full command).kind hub ≡ true }
     ensures { Gateway result ≡ (row_of full command).kind }
@@ -65,6 +68,7 @@ fn of_gateway(command: u8) -> OfGateway
 }
 
 // What Overall Length counts besides the first six words: nothing, a fill's one byte, or the bytes that word 06 says.
+#[tactic(auto, unfolding(meaning::specs::Table::table, meaning::specs::Table::lookup, meaning::specs::Table::row_of))]
 fn load_of(command: u8) -> Load
     ensures { result ≡ (row_of full command).load }
 {
@@ -76,6 +80,7 @@ fn load_of(command: u8) -> Load
 }
 
 // Word 04: a timeout, a delay, or unused.
+#[tactic(auto, unfolding(meaning::specs::Table::table, meaning::specs::Table::lookup, meaning::specs::Table::row_of))]
 fn word4_of(command: u8) -> Limits
     ensures { result ≡ (row_of full command).word4 }
 {
@@ -86,6 +91,7 @@ fn word4_of(command: u8) -> Limits
     }
 }
 
+#[tactic(auto, unfolding(meaning::specs::Table::table, meaning::specs::Table::lookup, meaning::specs::Table::row_of))]
 fn start_of(command: u8) -> Limits
     ensures { result ≡ (row_of full command).start }
 {
@@ -95,6 +101,7 @@ fn start_of(command: u8) -> Limits
     }
 }
 
+#[tactic(auto, unfolding(meaning::specs::Table::table, meaning::specs::Table::lookup, meaning::specs::Table::row_of))]
 fn size_of(command: u8) -> Limits
     ensures { result ≡ (row_of full command).size }
 {
@@ -120,6 +127,7 @@ pub fn row_of(command: u8) -> Row
 }
 
 // Whether a command of this kind is for this node, one of the allowed.
+#[tactic(auto, unfolding(meaning::specs::Table::suits))]
 pub fn suits(kind: Kind, node: u8) -> bool
     ensures { result ≡ suits kind node }
 {
@@ -132,6 +140,7 @@ pub fn suits(kind: Kind, node: u8) -> bool
     }
 }
 
+#[tactic(auto, unfolding(meaning::specs::Table::carries))]
 fn carries(load: Load, size: u16) -> Bytes
     ensures { result.0 ≡ carries load size }
 {
@@ -143,6 +152,7 @@ fn carries(load: Load, size: u16) -> Bytes
 }
 
 // The data that a command carries.
+#[tactic(auto, unfolding(meaning::specs::Table::carried))]
 pub fn carried(row: Row, m: Command) -> Bytes
     ensures { result.0 ≡ carried row m }
 {
