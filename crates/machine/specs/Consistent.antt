@@ -1,6 +1,6 @@
 -- Document 01, "Room" and "Refusal numbers": 1, "store or plaque memory of another length"; 2, "state not consistent".
 -- Assumes nothing.
-use Rattle.std.specs.Prelude.{ℕ, suc, ◌+◌, ◌*◌, max, Bool, true, not, ◌&&◌, cond, List, [], ◌∷◌, map, leb, ltb, eqb, length, drop}
+use Rattle.std.specs.Prelude.{ℕ, suc, ◌+◌, max, Bool, true, not, ◌&&◌, cond, List, [], ◌∷◌, map, leb, ltb, eqb, length, drop}
 use Rattle.units.specs.Count.{every, within}
 use Rattle.units.specs.declared.Words.{Words}
 use Rattle.meaning.specs.Refusal.{Doubts, ◌when◌, ◌or_else◌, refusal}
