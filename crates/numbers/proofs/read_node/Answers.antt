@@ -1,8 +1,8 @@
 -- A number of at most 255 is itself modulo 256.
 -- Assumes nothing.
-use Rattle.units.proofs.Common.{arith, rules}
-use Rattle.numbers.proofs.Numbers.{node_at}
+use Rattle.units.proofs.Common.{arith}
+use Rattle.numbers.proofs.Numbers.{node_at_lem}
 use Rattle.numbers.proofs.read_node.Goals as goal
 
 pub returns : goal.returns
-returns c = node_at c.args.line.now c.args.at _ c.read_number-n.ensures
+returns c = node_at_lem c.args.line.now c.args.at _ c.read_number-n.ensures
