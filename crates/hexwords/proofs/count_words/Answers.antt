@@ -1,6 +1,6 @@
 -- What is left is all words just where the whole is; the words so far and those that are left are all of them.
 -- Assumes nothing.
-use Rattle.units.proofs.Common.{sym, ◌∙◌, ◌≡◌, refl, ap, ◌≤◌, ◌-◌, ◌+◌, arith, length, not-false, not-true, every, yes_and}
+use Rattle.units.proofs.Common.{sym, ◌∙◌, ◌≡◌, refl, ap, ◌≤◌, ◌-◌, ◌+◌, arith, length, every, yes_and}
 use Rattle.fields.proofs.Places.{from_past}
 use Rattle.hexwords.proofs.Words.{no_words, all_words}
 use Rattle.hexwords.proofs.Words.{word_at, first_word}
@@ -15,13 +15,13 @@ loop-from-init c = (omega arith, refl, omega arith)
 pub returns-then-not-is_word : goal.returns-then-not-is_word
 returns-then-not-is_word c =
     let a = c.args in
-    no_words a.line.now a.at (nowise _ (λ e. clash c.is_word.ensures (not-true _ c.if-not-is_word.true)
+    no_words a.line.now a.at (nowise _ (λ e. clash c.is_word.ensures c.if-not-is_word.true
     (first_word a.line.now c.loop-from.from (omega arith) (sym c.loop-from.invariant.1 ∙ e))))
 
 pub loop-from-preserved : goal.loop-from-preserved
 loop-from-preserved c =
     let w = word_at c.args.line.now c.loop-from.from (omega arith)
-    (sym c.is_word.ensures ∙ not-false _ c.if-not-is_word.false) in (
+    (sym c.is_word.ensures ∙ c.if-not-is_word.false) in (
       omega arith,
       c.loop-from.invariant.1 ∙ ap (every word_ok) w.first ∙ every_cons word_ok _ _ ∙ yes_and w.ok,
       omega (arith, ap length w.first, c.loop-from.invariant.2),

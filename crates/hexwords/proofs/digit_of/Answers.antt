@@ -13,4 +13,4 @@ value c h =
     (hex_cases c h)
 
 pub returns : goal.returns
-returns c = value c.args.c c.requires
+returns c = let v = value c.args.c c.requires in record { value = v.0; upper_bound = v.1 }

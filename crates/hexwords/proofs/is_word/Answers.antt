@@ -10,12 +10,11 @@ returns-then-line-at-lt4 c =
     let a = c.args in
     sym (nowise _ (λ e. omega (arith, (word_at a.line.now a.at c.requires e).inside)))
 
--- LEFT returns-then-goes_on at Then2: 0
--- let s = c.before.before.before.before in let a = s.args in
---     let g = c.before.goes_on.ensures.0 c.if2.true in
---     sym (nowise _ (λ e. g.1 ((word_at a.line.now a.at s.requires e).stops g.0)))
+pub returns-then-goes_on : goal.returns-then-goes_on
+returns-then-goes_on c =
+    let a = c.args in
+    let g = c.goes_on.ensures.at_in_bounds c.if-goes_on.true in
+    sym (nowise _ (λ e. g.1 ((word_at a.line.now a.at c.requires e).stops g.0)))
 
--- LEFT returns at After_both3: 1
--- let g = c.before.before.before.before.before.before.before.before.before.before.before in
---     let a = g.before.before.before.before.args in
---     cc (is_word a.line.now a.at (g.before.goes_on.ensures.1 g.if2.false))
+pub returns : goal.returns
+returns c = cc (is_word c.args.line.now c.args.at (c.goes_on.ensures.field_at c.if-goes_on.false))

@@ -4,8 +4,6 @@ use Rattle.units.proofs.Common.{sym, ◌∙◌, refl, ap, ◌≤◌, arith, leng
 use Rattle.dialog.proofs.HexLaws.{no_bytes, some_bytes, length_pairs, of_bytes}
 use Rattle.hexwords.proofs.put_bytes.Goals as goal
 
--- LEFT cast-n
-
 pub returns-then-is_same : goal.returns-then-is_same
 returns-then-is_same c =
     let e = no_bytes c.args.field.now (sym c.is_same.ensures ∙ c.if-is_same.true) in
@@ -18,6 +16,12 @@ pub put_pairs-requires : goal.put_pairs-requires
 put_pairs-requires c =
     let b = of_bytes c.args.most.0 c.args.field.now (sym c.is_same.ensures ∙ c.if-is_same.false) c.requires in
     (b.even, b.digits)
+
+pub overflow_cast-result : goal.overflow_cast-result
+overflow_cast-result c =
+    let few : c.args.most.0 ≤ 65535 = search rules in
+    let b = of_bytes c.args.most.0 c.args.field.now (sym c.is_same.ensures ∙ c.if-is_same.false) c.requires in
+    omega arith
 
 pub returns : goal.returns
 returns c =
