@@ -128,6 +128,7 @@ fn outside(l: Limits, value: u16) -> bool
 }
 
 // 10: continuous reading is stopped, and a delay is given.
+#[tactic(auto, unfolding(meaning::specs::Command::delay_wrong))]
 fn delay_wrong(kind: Kind, m: Command) -> bool
     ensures { result ≡ delay_wrong kind m }
 {
@@ -150,6 +151,7 @@ fn past_region(m: Command) -> bool
 }
 
 // 10: continuous reading past a region, or stopped with a start given.
+#[tactic(auto, unfolding(meaning::specs::Command::range_wrong))]
 fn range_wrong(kind: Kind, m: Command) -> bool
     ensures { result ≡ range_wrong full.region kind m }
 {

@@ -1,6 +1,5 @@
 -- Each field is the byte or the word that the paper numbers.
 use Rattle.meaning.proofs.Terms.{command_of}
-use Rattle.units.proofs.Common.{rules}
 use Rattle.command.proofs.command_of.Goals as goal
 
 pub returns : goal.returns

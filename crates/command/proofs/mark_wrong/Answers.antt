@@ -1,5 +1,4 @@
 -- The word's upper byte, compared.
-use Rattle.units.proofs.Common.{rules}
 use Rattle.command.proofs.mark_wrong.Goals as goal
 
 pub returns : goal.returns

@@ -1,5 +1,4 @@
 -- The chain of a packet's doubts is the frame's and then the row's.
-use Rattle.units.proofs.Common.{rules}
 use Rattle.meaning.proofs.Chain.{doubts}
 use Rattle.command.proofs.packet_refusal.Goals as goal
 

@@ -1,5 +1,5 @@
 -- The refusal decides which result it is, and what was opened for it is what the packet says.
-use Rattle.units.proofs.Common.{sym, eq-eqb, ne_eqb, rules, yes_cond, no_cond}
+use Rattle.units.proofs.Common.{sym, eq-eqb, ne_eqb, yes_cond, no_cond}
 use Rattle.meaning.proofs.Terms.{read_command, command_result}
 use Rattle.command.proofs.Leaves.{refusal_is, said_is}
 use Rattle.command.proofs.read_command.Goals as goal
