@@ -7,14 +7,6 @@ pub returns-then-length : goal.returns-then-length
 unfolding name_ok
 returns-then-length c = sym (no_and _ (lt-leb _ _ c.if-length.true))
 
-pub overflow_cast-length : goal.overflow_cast-length
-unfolding name_ok
-overflow_cast-length c = search rules
-
-pub all_zero-requires : goal.all_zero-requires
-unfolding name_ok
-all_zero-requires c = search rules
-
 pub returns : goal.returns
 unfolding name_ok
 returns c = c.all_zero.ensures ∙ sym (yes_and (le-leb _ _ c.if-length.false))

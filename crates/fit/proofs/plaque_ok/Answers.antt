@@ -22,10 +22,6 @@ returns-then-p-ne0 c =
     let eight : eqb (length c.args.p.id) 8 ≡ true = let n : length c.args.p.id ≡ 8 = search rules in eq-eqb _ _ n in
     sym (yes_and (eight) ∙ no_cond _ c.if-p.false ∙ no_and _ (ne_eqb _ _ c.if-p-ne0.true))
 
-pub all_zero-requires : goal.all_zero-requires
-unfolding plaque_ok
-all_zero-requires c = search rules
-
 pub returns : goal.returns
 unfolding plaque_ok
 returns c =

@@ -3,30 +3,18 @@ use Rattle.units.proofs.Common.{sym, ◌∙◌, not-false, not-true, rules, yes_
 use Rattle.machine.proofs.Terms.{reader_ok}
 use Rattle.fit.proofs.reader_ok.Goals as goal
 
-pub plaque_ok-requires : goal.plaque_ok-requires
-unfolding reader_ok
-plaque_ok-requires c = search rules
-
 pub returns-then-not-plaque_ok : goal.returns-then-not-plaque_ok
 unfolding reader_ok
-returns-then-not-plaque_ok c = sym (no_and _ (sym c.plaque_ok.ensures ∙ not-true _ c.if-not-plaque_ok.true))
-
-pub reading_ok-requires : goal.reading_ok-requires
-unfolding reader_ok
-reading_ok-requires c = search rules
+returns-then-not-plaque_ok c = sym (no_and _ (sym c.plaque_ok.ensures ∙ c.if-not-plaque_ok.true))
 
 pub returns-then-not-reading_ok : goal.returns-then-not-reading_ok
 unfolding reader_ok
 returns-then-not-reading_ok c =
-    sym (yes_and (sym c.plaque_ok.ensures ∙ not-false _ c.if-not-plaque_ok.false) ∙ no_and _
-    (sym c.reading_ok.ensures ∙ not-true _ c.if-not-reading_ok.true))
-
-pub report_ok-requires : goal.report_ok-requires
-unfolding reader_ok
-report_ok-requires c = search rules
+    sym (yes_and (sym c.plaque_ok.ensures ∙ c.if-not-plaque_ok.false) ∙ no_and _
+    (sym c.reading_ok.ensures ∙ c.if-not-reading_ok.true))
 
 pub returns : goal.returns
 unfolding reader_ok
 returns c =
-    c.report_ok.ensures ∙ sym (yes_and (sym c.plaque_ok.ensures ∙ not-false _ c.if-not-plaque_ok.false) ∙ yes_and
-    (sym c.reading_ok.ensures ∙ not-false _ c.if-not-reading_ok.false))
+    c.report_ok.ensures ∙ sym (yes_and (sym c.plaque_ok.ensures ∙ c.if-not-plaque_ok.false) ∙ yes_and
+    (sym c.reading_ok.ensures ∙ c.if-not-reading_ok.false))

@@ -14,7 +14,7 @@ returns-then-not-reader_ok c =
     let n : length l ≡ full.readers = search (rules, length_mapped) in
     let i = c.loop-i.i in
     let e : reader_ok full (get_or l i fresh_reader) ≡ false = ap (reader_ok full) (sym c.reader_of.ensures) ∙ sym
-    c.reader_ok.ensures ∙ not-true _ c.if-not-reader_ok.true in
+    c.reader_ok.ensures ∙ c.if-not-reader_ok.true in
     sym (c.loop-i.invariant.1 ∙ every_at (reader_ok full) l i fresh_reader (omega arith) ∙ no_and _ e)
 
 pub loop-i-preserved : goal.loop-i-preserved
@@ -24,7 +24,7 @@ loop-i-preserved c =
     let n : length l ≡ full.readers = search (rules, length_mapped) in
     let i = c.loop-i.i in
     let e : reader_ok full (get_or l i fresh_reader) ≡ true = ap (reader_ok full) (sym c.reader_of.ensures) ∙ sym
-    c.reader_ok.ensures ∙ not-false _ c.if-not-reader_ok.false in
+    c.reader_ok.ensures ∙ c.if-not-reader_ok.false in
     (omega arith, c.loop-i.invariant.1 ∙ every_at (reader_ok full) l i fresh_reader (omega arith) ∙ yes_and e)
 
 pub returns : goal.returns

@@ -24,10 +24,6 @@ pub returns-then-size : goal.returns-then-size
 unfolding reading_ok
 returns-then-size c = sym (no_cond _ (ne_eqb _ _ c.if-size-eq0.false) ∙ no_and _ (lt-leb _ _ c.if-size.true))
 
-pub overflow_sub-size : goal.overflow_sub-size
-unfolding reading_ok
-overflow_sub-size c = search rules
-
 pub returns-then-size-x : goal.returns-then-size-x
 unfolding reading_ok
 returns-then-size-x c =

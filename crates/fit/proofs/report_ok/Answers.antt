@@ -9,20 +9,16 @@ returns-then-x c =
     let eight : eqb (length c.args.x.id) 8 ≡ true = let n : length c.args.x.id ≡ 8 = search rules in eq-eqb _ _ n in
     sym (yes_and (eight) ∙ yes_cond _ c.if-x.true)
 
-pub all_zero-requires : goal.all_zero-requires
-unfolding report_ok
-all_zero-requires c = search rules
-
 pub returns-then-not-all_zero : goal.returns-then-not-all_zero
 unfolding report_ok
 returns-then-not-all_zero c =
     let eight : eqb (length c.args.x.id) 8 ≡ true = let n : length c.args.x.id ≡ 8 = search rules in eq-eqb _ _ n in
     sym (yes_and (eight) ∙ no_cond _ c.if-x.false ∙ no_and _
-    (sym c.all_zero.ensures ∙ not-true _ c.if-not-all_zero.true))
+    (sym c.all_zero.ensures ∙ c.if-not-all_zero.true))
 
 pub returns : goal.returns
 unfolding report_ok
 returns c =
     let eight : eqb (length c.args.x.id) 8 ≡ true = let n : length c.args.x.id ≡ 8 = search rules in eq-eqb _ _ n in
     sym (yes_and (eight) ∙ no_cond _ c.if-x.false ∙ yes_and
-    (sym c.all_zero.ensures ∙ not-false _ c.if-not-all_zero.false))
+    (sym c.all_zero.ensures ∙ c.if-not-all_zero.false))
