@@ -1,4 +1,4 @@
-/* The proved side, from target/staticlib/librashdumof.a: a slice is a pointer and a length. Its lent memory is its own, cleared in each call, as
+/* The proved side, from crates/rashdumof/out/librashdumof.a: a slice is a pointer and a length. Its lent memory is its own, cleared in each call, as
    the plain side clears its own. */
 #ifndef BENCH_OURS_H
 #define BENCH_OURS_H
