@@ -1,6 +1,5 @@
 -- A text of seven bytes.
 use Rattle.listing.specs.Lines.{broken_line}
-use Rattle.units.proofs.Common.{rules}
 use Rattle.listingout.proofs.put_broken.Goals as goal
 
 pub returns : goal.returns

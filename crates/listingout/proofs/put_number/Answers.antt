@@ -1,5 +1,5 @@
 -- A text, a number in decimal and a line feed, each behind the last.
-use Rattle.units.proofs.Common.{arith, rules}
+use Rattle.units.proofs.Common.{arith}
 use Rattle.text.proofs.Writing.{put_then, put_length, decimal_short}
 use Rattle.listing.specs.Lines.{number_line}
 use Rattle.listingout.proofs.put_number.Goals as goal
