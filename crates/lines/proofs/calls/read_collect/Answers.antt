@@ -1,6 +1,6 @@
 -- A node, and a form that ends with the line.
 -- Assumes nothing.
-use Rattle.units.proofs.Common.{sym, ◌∙◌, ap, ⊎_elim, arith, not-false, not-true, ltb-false, ltb-true, rules}
+use Rattle.units.proofs.Common.{sym, ◌∙◌, ap, arith, not-false, not-true, ltb-false, ltb-true, rules}
 use Rattle.dialog.proofs.FieldLaws.{clash}
 use Rattle.fields.specs.declared.FormRead.{FormRead}
 use Rattle.lines.specs.Heard.{heard_of}
@@ -9,17 +9,18 @@ use Rattle.numbers.proofs.Numbers.{all_from, node_is}
 use Rattle.dialog.proofs.SpokenLaws.{is_collect}
 use Rattle.dialog.specs.Spoken.{is_form, form_of}
 use Rattle.lines.proofs.calls.read_collect.Goals as goal
+use Rattle.lines.proofs.calls.read_collect.Goals.{then-not-n-via-then-not-n, then-not-n-via-else-not-n+then-line-from}
 
 pub returns-then-not-n : goal.returns-then-not-n
 returns-then-not-n c =
     let n = node_is all_from c.read_node-n.ensures in
-    no_collect _ (λ f. ⊎_elim
-    (λ w. clash n.ok (not-true _ w.taken) f.node)
-    (λ w. too_few n.rest (ltb-true _ _ w.1.taken) (omega arith) f.two)
-    c.then-not-n.branch)
+    no_collect _ (λ f. elim c.then-not-n.branch [
+      | then-not-n-via-then-not-n w ↦ clash n.ok (not-true _ w.if-not-n.true) f.node
+      | then-not-n-via-else-not-n+then-line-from w ↦ too_few n.rest w.if-line-from.true (omega arith) f.two
+    ])
 
 pub field_end-requires : goal.field_end-requires
-field_end-requires c = ltb-false _ _ c.if-line-from.false
+field_end-requires c = c.if-line-from.false
 
 pub returns-then-field_end-line : goal.returns-then-field_end-line
 returns-then-field_end-line c =

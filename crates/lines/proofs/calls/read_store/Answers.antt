@@ -1,6 +1,6 @@
 -- Two numbers and no field after them; then some words, and all of them within the store.
 -- Assumes nothing.
-use Rattle.units.proofs.Common.{sym, ◌∙◌, ⊎_elim, arith, not-false, not-true, ltb-false, ltb-true, rules}
+use Rattle.units.proofs.Common.{sym, ◌∙◌, arith, not-false, not-true, rules}
 use Rattle.dialog.proofs.FieldLaws.{clash}
 use Rattle.fields.specs.FieldsAt.{fields_from}
 use Rattle.lines.specs.Heard.{heard_of}
@@ -8,15 +8,16 @@ use Rattle.lines.proofs.Found.{too_many, all_there, same_small, no_store}
 use Rattle.numbers.proofs.Numbers.{all_from, few_at, number_is_at}
 use Rattle.dialog.proofs.SpokenLaws.{is_store}
 use Rattle.lines.proofs.calls.read_store.Goals as goal
+use Rattle.lines.proofs.calls.read_store.Goals.{then-not-f-via-then-not-f, then-not-f-via-else-not-f+then-not-k, then-count-eq0-via-then-count-eq0, then-count-eq0-via-else-count-eq0+then-first-count}
 
 pub returns-then-not-f : goal.returns-then-not-f
 returns-then-not-f c =
     let f = number_is_at all_from c.read_number-f.ensures in
     let k = number_is_at f.rest c.read_number-k.ensures in
-    no_store _ (λ s. ⊎_elim
-    (λ w. clash f.ok (not-true _ w.taken) s.first)
-    (λ w. clash k.ok (not-true _ w.2.taken) s.count)
-    c.then-not-f.branch)
+    no_store _ (λ s. elim c.then-not-f.branch [
+      | then-not-f-via-then-not-f w ↦ clash f.ok (not-true _ w.if-not-f.true) s.first
+      | then-not-f-via-else-not-f+then-not-k w ↦ clash k.ok (not-true _ w.if-not-k.true) s.count
+    ])
 
 pub returns-then-after_count-line : goal.returns-then-after_count-line
 returns-then-after_count-line c =
@@ -41,10 +42,10 @@ returns-then-count-eq0 c =
     let k = number_is_at f.rest ke in
     let ef = same_small _ 65535 (omega (arith, few_at _ _ _ fe)) ∙ f.value (not-false _ c.if-not-f.false) in
     let ek = same_small _ 65535 (omega (arith, few_at _ _ _ ke)) ∙ k.value (not-false _ c.if-not-k.false) in
-    no_store fs (λ s. ⊎_elim
-    (λ w. omega (arith, w.taken, ek, s.some))
-    (λ w. omega (arith, ltb-true, w.2.taken, ef, ek, s.inside))
-    c.then-count-eq0.branch)
+    no_store fs (λ s. elim c.then-count-eq0.branch [
+      | then-count-eq0-via-then-count-eq0 w ↦ omega (arith, w.if-count-eq0.true, ek, s.some)
+      | then-count-eq0-via-else-count-eq0+then-first-count w ↦ omega (arith, w.if-first-count.true, ef, ek, s.inside)
+    ])
 
 pub returns : goal.returns
 unfolding heard_of
@@ -56,7 +57,7 @@ returns c =
     let f = number_is_at all_from fe in
     let k = number_is_at f.rest ke in
     let fok = not-false _ c.if-not-f.false in
-    let kok = not-false _ c.if-not-k.false in
+    let kok = not-false c.read_number-k.result.ok c.if-not-k.false in
     let ef = same_small _ 65535 (omega (arith, few_at _ _ _ fe)) ∙ f.value fok in
     let ek = same_small _ 65535 (omega (arith, few_at _ _ _ ke)) ∙ k.value kok in
     rw (
@@ -65,7 +66,7 @@ returns c =
         count = sym k.ok ∙ kok;
         two = all_there k.rest (omega arith) (k.there kok);
         some = omega (arith, c.if-count-eq0.false, ek);
-        inside = omega (arith, ltb-false, c.if-first-count.false, ef, ek);
+        inside = omega (arith, c.if-first-count.false, ef, ek);
       }),
       ef,
       ek,
