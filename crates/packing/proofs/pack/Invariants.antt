@@ -1,9 +1,8 @@
 -- After k turns the front of out holds the first k + k words, and after the pair that may be left all pairs that there is room for. There
 -- is no more room, or no byte more, or the odd byte's word joins them; `filled` and `put_last` say that this is all.
 -- Assumes nothing.
-use Rattle.units.proofs.Common.{sym, ◌∙◌, ◌≡◌, refl, ⊎_elim, ◌++◌, ◌≤◌, ◌-◌, ◌+◌, arith, length, drop, take, length-set}
+use Rattle.units.proofs.Common.{◌≡◌, ◌++◌, ◌≤◌, ◌-◌, ◌+◌, length, drop, take}
 use Rattle.units.specs.Packing.{packed}
-use Rattle.units.proofs.PackingLaws.{length_packed, get_d_packed, odd_packed, put_next, put_two, filled, put_last}
 use Rattle.packing.proofs.pack.Given as goal
 
 abbrev pub invariant-loop-k : goal.invariant-loop-k

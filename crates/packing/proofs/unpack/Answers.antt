@@ -1,7 +1,7 @@
 -- After i turns the front of out holds the bytes of the first i words. There is no word more, or no room, or the first byte of a word joins
 -- them; `filled` and `put_last` say that this is all.
 -- Assumes nothing.
-use Rattle.units.proofs.Common.{sym, ◌∙◌, ◌≡◌, refl, ◌++◌, ◌≤◌, ◌-◌, ◌+◌, arith, length, drop, take, length-set}
+use Rattle.units.proofs.Common.{sym, ◌∙◌, refl, ◌+◌, arith, length-set}
 use Rattle.units.specs.Packing.{bytes_of}
 use Rattle.units.proofs.PackingLaws.{length_bytes_of, byte_at_even, byte_at_odd, put_two, filled, put_last}
 use Rattle.packing.proofs.unpack.Goals as goal
