@@ -1,7 +1,5 @@
 -- Each turn uses up a try, so that the loop ends.
 -- Assumes nothing.
-use borrow.Author.Rules.{rules}
-use native.Mathlib.Omega.{arith}
 use mathlib.Core.Path.{◌≡◌}
 use lib.ListN.{length}
 use Rattle.streams.proofs.take.Given as goal
