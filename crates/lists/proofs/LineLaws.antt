@@ -65,9 +65,9 @@ line_of b j w (n ∷ ns) (x ∷ hs) h =
 
 -- ---- both together
 module _ (b : Bench) (store : List ℕ) (ns : List Node) (hs : List Words) where
-  in-line : lists_ok b store ns hs ≡ true → in_line b 0 store ns (counts hs) ≡ true
+  ordered_line : lists_ok b store ns hs ≡ true → in_line b 0 store ns (counts hs) ≡ true
   unfolding lists_ok listed in_layout store_of
-  in-line h =
+  ordered_line h =
       let ms = nodes_in store ns in
       let z = length store - length (all_laid ms) in
       let p = and_true (in_layout store ms) _ h in
@@ -84,7 +84,7 @@ module _ (b : Bench) (store : List ℕ) (ns : List Node) (hs : List Words) where
       let f = line_of b 0 store ns (counts hs) e in
       yes_and (is_same _ _ (store_is store ms f.spare f.words)) ∙ yes_and f.formed ∙ yes_and (is_same _ _ f.helds)
       ∙ ap (bounded b) (sym f.helds)
-  by_line false e = is_false _ (λ h. false≢true (sym e ∙ in-line h))
+  by_line false e = is_false _ (λ h. false≢true (sym e ∙ ordered_line h))
 
   pub line_is : lists_ok b store ns hs ≡ in_line b 0 store ns (counts hs) && bounded b (counts hs)
   line_is = by_line _ refl

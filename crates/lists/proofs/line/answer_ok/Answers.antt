@@ -8,9 +8,6 @@ use Rattle.lists.proofs.line.answer_ok.Goals as goal
 pub returns-then-store-place : goal.returns-then-store-place
 returns-then-store-place c = let a = c.args in sym (ok_none full a.store.now a.i a.place c.if-store-place.true)
 
-pub overflow_cast-len : goal.overflow_cast-len
-overflow_cast-len c = record { fits = omega (arith, c.shared_slice_known-2-1.given c.args.place) }
-
 pub returns-then-store-place-2 : goal.returns-then-store-place-2
 returns-then-store-place-2 c =
     let a = c.args in
@@ -19,13 +16,9 @@ returns-then-store-place-2 c =
 pub returns-in-Accepted : goal.returns-in-Accepted
 returns-in-Accepted c =
     let a = c.args in
-    let g = c.r-1.given in
-    let e = sym c.judge_response.ensures ∙ g.1 in
-    rw c.node_at.ensures (sym (ok_read full a.store.now a.i a.place g.0.0 g.0.1.0 e))
+    rw c.node_at.ensures (sym (ok_read full a.store.now a.i a.place _ _ (sym c.in-Accepted.ensures)))
 
 pub returns-in-Refused : goal.returns-in-Refused
 returns-in-Refused c =
     let a = c.args in
-    let g = c.enum_told-1.given in
-    let e = sym c.judge_response.ensures ∙ g.1 in
-    sym (ok_refused full a.store.now a.i a.place g.0.0 e)
+    sym (ok_refused full a.store.now a.i a.place _ (sym c.in-Refused.ensures))
