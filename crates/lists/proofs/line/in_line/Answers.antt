@@ -58,7 +58,7 @@ returns-then-not-fine c =
     elim c.nodes-test.branch [
       | else-nodes-test w ↦ absurd (true≢false (sym m.invariant.1 ∙ sym w.fine-is ∙ f))
       | then-nodes-test+then-loop-k-test+then-not-answer_ok w ↦
-          sym (go_bad full _ _ _ _ _ _ _ _ _ w.loop-k.invariant.3 w.loop-k-test.true (sym w.answer_ok.ensures ∙ w.if-not-answer_ok.true))
+          sym (go_bad full _ _ _ _ _ _ _ _ _ _ w.loop-k.invariant.3 w.loop-k-test.true (sym w.answer_ok.ensures ∙ w.if-not-answer_ok.true))
       | then-nodes-test+else-loop-k-test+then-h-place w ↦
           sym
           (go_off full _ _ _ _ _ _ _ _ _ _ w.loop-k.invariant.3 w.loop-k-test.false
