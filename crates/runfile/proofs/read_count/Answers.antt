@@ -1,6 +1,6 @@
 -- The record is read of the bytes that are left at the position.
 -- Assumes nothing.
-use Rattle.units.proofs.Common.{◌∙◌, ap, rules}
+use Rattle.units.proofs.Common.{◌∙◌, ap}
 use Rattle.runfile.specs.Records.{count_of}
 use Rattle.runfile.proofs.read_count.Goals as goal
 

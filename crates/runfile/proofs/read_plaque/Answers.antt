@@ -1,6 +1,6 @@
 -- The record is read of the bytes that are left at the position.
 -- Assumes nothing.
-use Rattle.units.proofs.Common.{◌∙◌, ap, rules}
+use Rattle.units.proofs.Common.{◌∙◌, ap}
 use Rattle.meaning.proofs.Terms.{full}
 use Rattle.runfile.specs.Records.{plaque_of}
 use Rattle.runfile.proofs.read_plaque.Goals as goal

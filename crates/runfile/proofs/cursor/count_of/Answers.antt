@@ -1,6 +1,6 @@
 -- The count is broken exactly where fewer than two bytes are left.
 -- Assumes nothing.
-use Rattle.units.proofs.Common.{arith, rules}
+use Rattle.units.proofs.Common.{arith}
 use Rattle.runfile.proofs.Records.{no_count, a_count}
 use Rattle.runfile.proofs.cursor.count_of.Goals as goal
 

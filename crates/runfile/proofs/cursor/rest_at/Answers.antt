@@ -1,6 +1,6 @@
 -- Past the end of the bytes nothing is left, as nothing is dropped from them; before it a part of them is lent.
 -- Assumes nothing.
-use Rattle.units.proofs.Common.{sym, arith, drop_of_length-le, rules}
+use Rattle.units.proofs.Common.{sym, arith, drop_of_length-le}
 use Rattle.runfile.proofs.Records.{from}
 use Rattle.runfile.proofs.cursor.rest_at.Goals as goal
 

@@ -1,6 +1,5 @@
 -- What search finds by itself, written out: an edit is then refused here.
 -- Assumes nothing.
-use Rattle.units.proofs.Common.{rules}
 use Rattle.runfile.proofs.cursor.two_at.Goals as goal
 
 pub returns : goal.returns
