@@ -1,6 +1,6 @@
 -- `put_handed` writes the line of an answer handed over: its beginning, word 00 where the form has it, and the words (laws of `Collected`).
 -- Assumes nothing.
-use Rattle.units.proofs.Common.{arith, rules}
+use Rattle.units.proofs.Common.{arith}
 use Rattle.meaning.proofs.Chain.{flag}
 use Rattle.text.proofs.Writing.{put_length, length_hex, decimal_short}
 use Rattle.dialogout.proofs.Collected.{begun, collected_headed, collected_bare}

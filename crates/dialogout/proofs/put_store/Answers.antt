@@ -1,6 +1,6 @@
 -- The beginning and the words, one after the other, are the line.
 -- Assumes nothing.
-use Rattle.units.proofs.Common.{arith, rules}
+use Rattle.units.proofs.Common.{arith}
 use Rattle.text.proofs.Writing.{put_then, put_length}
 use Rattle.dialog.specs.Dialog.{store_line}
 use Rattle.dialogout.proofs.put_store.Goals as goal
