@@ -1,6 +1,6 @@
 -- `aim` goes by what was heard: each arm is the definition's line for it (laws of `Aimed`).
 -- Assumes nothing.
-use Rattle.units.proofs.Common.{◌∙◌, subst, length, not-false, not-true, rules}
+use Rattle.units.proofs.Common.{◌∙◌, subst, length}
 use Rattle.meaning.proofs.Chain.{flag}
 use Rattle.lines.specs.declared.Heard.{Heard}
 use Rattle.aiming.specs.Aim.{Fits, aimed}
@@ -14,17 +14,17 @@ aim_command-requires c = subst (λ (h : Heard). Fits h (length c.args.packet.now
 pub returns-then-not-is_reader : goal.returns-then-not-is_reader
 returns-then-not-is_reader c =
     rw c.in-Leave.is
-    (c.refused.ensures ∙ leave_7 _ _ (flag c.is_reader.ensures (not-true _ c.if-not-is_reader.true)))
+    (c.refused.ensures ∙ leave_7 _ _ (flag c.is_reader.ensures c.if-not-is_reader.true))
 
 pub returns-then-not-is_node : goal.returns-then-not-is_node
 returns-then-not-is_node c =
     rw c.in-Collect.is
-    (c.refused-then-not-is_node.ensures ∙ collect_7 _ _ _ (flag c.is_node.ensures (not-true _ c.if-not-is_node.true)))
+    (c.refused-then-not-is_node.ensures ∙ collect_7 _ _ _ (flag c.is_node.ensures c.if-not-is_node.true))
 
 pub returns-then-not-is_node-2 : goal.returns-then-not-is_node-2
 returns-then-not-is_node-2 c =
     rw c.in-Acknowledge.is
-    (c.refused-then-not-is_node-2.ensures ∙ acknowledge_7 _ _ _ (flag c.is_node-in-Acknowledge.ensures (not-true _ c.if-not-is_node-2.true)))
+    (c.refused-then-not-is_node-2.ensures ∙ acknowledge_7 _ _ _ (flag c.is_node-in-Acknowledge.ensures c.if-not-is_node-2.true))
 
 pub returns-in-Passed : goal.returns-in-Passed
 unfolding aimed
@@ -48,11 +48,11 @@ pub returns-in-Arrive : goal.returns-in-Arrive
 returns-in-Arrive c = rw c.in-Arrive.is (c.aim_arrive.ensures _)
 
 pub returns-else-not-is_reader : goal.returns-else-not-is_reader
-returns-else-not-is_reader c = rw c.in-Leave.is (leave_0 _ _ (flag c.is_reader.ensures (not-false _ c.if-not-is_reader.false)))
+returns-else-not-is_reader c = rw c.in-Leave.is (leave_0 _ _ (flag c.is_reader.ensures c.if-not-is_reader.false))
 
 pub returns-else-not-is_node : goal.returns-else-not-is_node
-returns-else-not-is_node c = rw c.in-Collect.is (collect_0 _ _ _ (flag c.is_node.ensures (not-false _ c.if-not-is_node.false)))
+returns-else-not-is_node c = rw c.in-Collect.is (collect_0 _ _ _ (flag c.is_node.ensures c.if-not-is_node.false))
 
 pub returns-else-not-is_node-2 : goal.returns-else-not-is_node-2
 returns-else-not-is_node-2 c =
-    rw c.in-Acknowledge.is (acknowledge_0 _ _ _ (flag c.is_node-in-Acknowledge.ensures (not-false _ c.if-not-is_node-2.false)))
+    rw c.in-Acknowledge.is (acknowledge_0 _ _ _ (flag c.is_node-in-Acknowledge.ensures c.if-not-is_node-2.false))

@@ -1,6 +1,6 @@
 -- `aim_command` aims a command as `judge_command` judges it (laws of `Aimed`).
 -- Assumes nothing.
-use Rattle.units.proofs.Common.{sym, ◌∙◌, take, length-take-le, rules}
+use Rattle.units.proofs.Common.{sym, ◌∙◌, take, length-take-le}
 use Rattle.meaning.proofs.Terms.{full}
 use Rattle.command.proofs.Judging.{its_refusal, its_kind, its_command}
 use Rattle.aiming.proofs.Aimed.{command_stops, command_gateway, command_reader}
