@@ -1,5 +1,5 @@
 -- Framed form has one word more.
-use Rattle.units.proofs.Common.{arith, rules}
+use Rattle.units.proofs.Common.{arith}
 use Rattle.meaning.proofs.Terms.{headed_count}
 use Rattle.commandout.proofs.headed_count.Goals as goal
 

@@ -1,5 +1,5 @@
 -- Word 00 in framed form, and the body behind it.
-use Rattle.units.proofs.Common.{◌∙◌, ◌≤◌, ◌+◌, arith, length, set, length-set, rules}
+use Rattle.units.proofs.Common.{◌∙◌, ◌≤◌, ◌+◌, arith, length, set, length-set}
 use Rattle.meaning.proofs.Terms.{overall, headed_count}
 use Rattle.units.proofs.Tails.{tail_sets, tail_length}
 use Rattle.meaning.specs.Command.{command_words, headed, command_body}
@@ -55,9 +55,6 @@ unfolding headed_count command_words headed
 returns-in-Register c =
     let a = c.args in
     rw c.in-Register.is c.put_body.ensures
-
-pub shape_of-out-in-Framed : goal.shape_of-out-in-Framed
-shape_of-out-in-Framed c = c.out-in-Framed-1.given.1 ∙ simp length-set
 
 pub returns-in-Framed : goal.returns-in-Framed
 unfolding headed_count command_words headed

@@ -17,7 +17,8 @@ returns-then-n-ne0 c =
 pub put_words-requires : goal.put_words-requires
 put_words-requires c =
     let a = c.args in
-    let w = writable _ a.form a.m _ _ (search rules) (sym c.write_refusal-n.ensures ∙ c.if-n-ne0.false) in w
+    let w = writable _ a.form a.m _ _ (search rules) (sym c.write_refusal-n.ensures ∙ c.if-n-ne0.false) in
+    record { bytes_in_bounds = w.0; bytes_len_bound = w.1 }
 
 pub overflow_cast-bytes : goal.overflow_cast-bytes
 overflow_cast-bytes c =

@@ -1,6 +1,5 @@
 -- The row's doubts, of the row that the command has in the table.
 use Rattle.meaning.specs.Command.{write_refusal}
-use Rattle.units.proofs.Common.{rules}
 use Rattle.commandout.proofs.write_refusal.Goals as goal
 
 pub returns : goal.returns
