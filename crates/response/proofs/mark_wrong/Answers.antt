@@ -1,5 +1,5 @@
 -- The upper byte of word 02 is AA, or FF for an error.
-use Rattle.units.proofs.Common.{sym, ap, not, eq-eqb, ne_eqb, rules, yes_or, no_or}
+use Rattle.units.proofs.Common.{sym, ap, not, eq-eqb, ne_eqb, yes_or, no_or}
 use Rattle.meaning.specs.Response.{mark_wrong}
 use Rattle.response.proofs.mark_wrong.Goals as goal
 

@@ -1,5 +1,5 @@
 -- What the test said is left to omega: a looser test is then refused here.
-use Rattle.units.proofs.Common.{sym, arith, eq-eqb, ne_eqb, rules, yes_cond, no_cond}
+use Rattle.units.proofs.Common.{sym, arith, eq-eqb, ne_eqb, yes_cond, no_cond}
 use Rattle.meaning.specs.Response.{response_data}
 use Rattle.response.specs.Handed.{handed}
 use Rattle.response.proofs.response_data.Goals as goal

@@ -1,6 +1,5 @@
 -- Each field is the byte that the paper numbers.
 use Rattle.meaning.proofs.Terms.{response_of}
-use Rattle.units.proofs.Common.{rules}
 use Rattle.response.proofs.response_of.Goals as goal
 
 pub returns : goal.returns

@@ -1,6 +1,5 @@
 -- Five bytes of words 04 to 06.
 use Rattle.meaning.proofs.Terms.{response_of}
-use Rattle.units.proofs.Common.{rules}
 use Rattle.response.proofs.stamp_of.Goals as goal
 
 pub returns : goal.returns
