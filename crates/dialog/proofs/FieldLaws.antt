@@ -1,6 +1,6 @@
 -- Laws of fields and numbers: a list by its first element and the rest, so that a loop's invariant speaks of what is left.
 -- Assumes nothing.
-use Rattle.units.proofs.Common.{sym, ◌∙◌, ◌≡◌, refl, ap, true, false, Bool, cond, ◌&&◌, false≢true, true≢false, List, [], ◌∷◌, ℕ, ◌≤◌, ◌-◌}
+use Rattle.units.proofs.Common.{sym, ◌∙◌, ◌≡◌, refl, ap, true, false, Bool, cond, ◌&&◌, false≢true, true≢false, List, [], ◌∷◌, ℕ, ◌≤◌}
 use Rattle.units.proofs.Common.{◌+◌, ◌<◌, suc, ◌*◌, zero, ◌^◌, add-one, arith, eqb, leb, length, drop, get_or, drop_of_length-le, drop-cons}
 use Rattle.units.proofs.Common.{eq-eqb, ne_eqb, le-leb, leb-true, every, within, yes_cond, no_cond, yes_and, and_true}
 use native.Mathlib.Nat.{pow-succ', pow-le-pow_right}
