@@ -1,9 +1,7 @@
 -- Lists swept, and an answer enlisted: swept words keep the bounds, places lie in the store, counts fit. Any bench.
 -- Assumes nothing.
-use Rattle.units.proofs.Common.{◌≡◌, refl, true, not, List, [], ◌∷◌, ℕ, ◌≤◌, ◌+◌, ◌<◌, arith, eqb, leb, T, length, get_or, set, replicate}
-use Rattle.units.proofs.Common.{length-replicate, le-leb, leb-true, every, keys, and_true}
-use types.Run.{OneOf}
-use denote.Enum.Declared.{tag_of}
+use Rattle.units.proofs.Common.{◌≡◌, refl, true, List, [], ◌∷◌, ℕ, ◌≤◌, ◌+◌, ◌<◌, arith, leb, length, get_or, set, replicate}
+use Rattle.units.proofs.Common.{length-replicate, le-leb, leb-true, every, and_true}
 use Rattle.units.specs.declared.Words.{Words}
 use Rattle.meaning.proofs.Terms.{Bench}
 use Rattle.machine.proofs.Terms.{nothing, charges_of, bounded, counts}
@@ -14,12 +12,11 @@ use Rattle.lists.proofs.Places.{place_all, place_in, sum_charges, bounded_sum}
 use Rattle.store.specs.Swept.{swept_words}
 use Rattle.store.specs.declared.Broom.{Broom}
 use Rattle.store.specs.declared.Broom.TheVariants as B
-use Rattle.store.specs.contracts.Broom.{the_type}
 use Rattle.store.proofs.Promised.{sum_set}
 
 -- the arm `_` beside Broom::Nothing
-pub sweeping : (P : Broom → Type 0) (z : Broom) → OneOf (1 ∷ 2 ∷ []) (tag_of the_type z) → P B.Clear → P B.Reset → P z
-sweeping P B.Nothing e c r = absurd (keys (λ (x : ℕ). T (not (eqb x 0))) (1 ∷ 2 ∷ []) 0 e (tt, (tt, tt)))
+pub sweeping : (P : Broom → Type 0) (z : Broom) → (z ≡ B.Nothing → ⊥) → P B.Clear → P B.Reset → P z
+sweeping P B.Nothing e c r = absurd (e refl)
 sweeping P B.Clear e c r = c
 sweeping P B.Reset e c r = r
 

@@ -23,6 +23,7 @@ pub enum Broom {
 }
 
 // A node, swept.
+#[tactic(auto, unfolding(crate::specs::Swept::swept_node))]
 fn sweep(broom: Broom, n: Node) -> Node
     ensures { result ≡ swept_node broom n }
 {

@@ -1,17 +1,12 @@
--- Both places lie in the store, so `insert` may be called, and its promise is the one asked for.
+-- Both places lie in the store, so `insert` may be called; its promise is the one asked for.
 use Rattle.units.proofs.Common.{◌≡◌, ◌+◌, arith, length, rules}
-use Rattle.meaning.specs.Bench.{node_count}
-use Rattle.meaning.specs.Bench.{full}
+use Rattle.meaning.specs.Bench.{node_count, full}
 use Rattle.state.proofs.Lists.{length_mapped}
 use Rattle.store.proofs.Enlisting.{place_ordered}
 use Rattle.store.proofs.join.Goals as goal
 
 pub insert-requires : goal.insert-requires
 insert-requires c =
-    let held_each : length c.args.held ≡ node_count full = search (rules, length_mapped) in
-    let n = held_each in
+    let n : length c.args.held ≡ node_count full = search (rules, length_mapped) in
     rw (c.place_of-end.ensures, c.place_of-at.ensures)
     (place_ordered c.args.held (c.args.i + 1) (node_count full) (omega arith), c.requires.1)
-
-pub returns : goal.returns
-returns c = rw (c.place_of-end.ensures, c.place_of-at.ensures) at c.insert.ensures
