@@ -1,5 +1,5 @@
 -- More than 255 bytes, or an error that has not exactly one.
-use Rattle.units.proofs.Common.{sym, ◌∙◌, le-ltb, lt-ltb, rules, yes_and, no_and, yes_or, no_or}
+use Rattle.units.proofs.Common.{sym, ◌∙◌, le-ltb, lt-ltb, yes_and, no_and, yes_or, no_or}
 use Rattle.meaning.proofs.Terms.{amount_wrong}
 use Rattle.responseout.proofs.amount_wrong.Goals as goal
 

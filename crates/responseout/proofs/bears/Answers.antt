@@ -1,6 +1,5 @@
 -- In framed form every node but 1 bears a word 00.
 use Rattle.meaning.proofs.Terms.{bears}
-use Rattle.units.proofs.Common.{rules}
 use Rattle.responseout.proofs.bears.Goals as goal
 
 pub returns-in-Register : goal.returns-in-Register

@@ -1,5 +1,5 @@
 -- Six words and then the data, each written behind the last.
-use Rattle.units.proofs.Common.{◌∙◌, List, [], ◌∷◌, ℕ, arith, length-set, sets, rules, packed}
+use Rattle.units.proofs.Common.{◌∙◌, List, [], ◌∷◌, ℕ, arith, length-set, sets, packed}
 use Rattle.units.proofs.Tails.{tail_sets}
 use Rattle.meaning.proofs.Terms.{response_body}
 use Rattle.responseout.proofs.put_body.Goals as goal

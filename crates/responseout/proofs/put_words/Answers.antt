@@ -1,5 +1,5 @@
 -- Word 00 where the node bears one, and the body behind it.
-use Rattle.units.proofs.Common.{◌∙◌, ◌≤◌, ◌+◌, arith, length, set, length-set, rules}
+use Rattle.units.proofs.Common.{◌∙◌, ◌≤◌, ◌+◌, arith, length, set, length-set}
 use Rattle.units.proofs.Tails.{tail_sets, tail_length}
 use Rattle.meaning.proofs.Chain.{flag}
 use Rattle.meaning.proofs.Terms.{overall, response_words, shown, response_body, shown_count}

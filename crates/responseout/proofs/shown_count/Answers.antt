@@ -1,5 +1,5 @@
 -- One word more where the node bears a word 00.
-use Rattle.units.proofs.Common.{sym, rules, yes_cond, no_cond}
+use Rattle.units.proofs.Common.{sym, yes_cond, no_cond}
 use Rattle.meaning.proofs.Terms.{shown_count}
 use Rattle.responseout.proofs.shown_count.Goals as goal
 

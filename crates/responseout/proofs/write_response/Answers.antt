@@ -1,5 +1,5 @@
 -- Refused, the output stays as it was; else it has the packet in front, whose length the refusal has made sure of.
-use Rattle.units.proofs.Common.{sym, ◌∙◌, ap, ℕ, arith, eq-eqb, ne_eqb, rules, yes_cond, no_cond}
+use Rattle.units.proofs.Common.{sym, ◌∙◌, ap, ℕ, arith, eq-eqb, ne_eqb, yes_cond, no_cond}
 use Rattle.meaning.proofs.ResponseLaws.{writable}
 use Rattle.meaning.proofs.Terms.{written_count, written_output, response_output}
 use Rattle.meaning.specs.declared.packet.Written.TheVariants.{Done}
