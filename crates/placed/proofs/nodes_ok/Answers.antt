@@ -9,7 +9,7 @@ pub returns-then-n-lt1 : goal.returns-then-n-lt1
 unfolding node_ok
 returns-then-n-lt1 c =
     let a = c.args in
-    let l : List Node = a.t1 in
+    let l : List Node = a.nodes in
     let n : length l ≡ 17 = search (rules, length_mapped) in
     sym (c.loop-i.invariant.1 ∙ every_at node_ok l c.loop-i.i _ (omega arith) ∙ no_and _ (lt-leb _ _ c.if-n-lt1.true))
 
@@ -17,7 +17,7 @@ pub loop-i-preserved : goal.loop-i-preserved
 unfolding node_ok
 loop-i-preserved c =
     let a = c.args in
-    let l : List Node = a.t1 in
+    let l : List Node = a.nodes in
     let n : length l ≡ 17 = search (rules, length_mapped) in
     (omega arith, c.loop-i.invariant.1 ∙ every_at node_ok l c.loop-i.i _ (omega arith) ∙ yes_and (le-leb 1 _ c.if-n-lt1.false))
 

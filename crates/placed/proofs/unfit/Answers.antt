@@ -9,25 +9,13 @@ use Rattle.placed.specs.Consistent.{lists_ok, node_ok, arrays, consistent, lengt
 use Rattle.placed.specs.Machine.{machine}
 use Rattle.placed.proofs.unfit.Goals as goal
 
-pub overflow_cast-t-9 : goal.overflow_cast-t-9
-unfolding unfit lent lengths
-overflow_cast-t-9 c = search rules
-
 pub returns-then-store : goal.returns-then-store
 unfolding unfit lent lengths
 returns-then-store c = sym (stop_if 1 _ refl (ap not (no_and _ (ne_eqb _ _ c.if-store.true))))
 
-pub overflow_cast-t-9-2 : goal.overflow_cast-t-9-2
-unfolding unfit lent lengths
-overflow_cast-t-9-2 c = search rules
-
 pub returns-then-plaques : goal.returns-then-plaques
 unfolding unfit lent lengths
 returns-then-plaques c = sym (stop_if 1 _ refl (ap not (yes_and (eq-eqb _ _ c.if-store.false) ∙ ne_eqb _ _ c.if-plaques.true)))
-
-pub lists_ok-requires : goal.lists_ok-requires
-unfolding unfit lent lengths
-lists_ok-requires c = search rules
 
 pub returns-then-not-lists_ok : goal.returns-then-not-lists_ok
 unfolding consistent unfit lent lengths
@@ -36,11 +24,7 @@ returns-then-not-lists_ok c =
     let long : (let a = c.args in let m = machine a.s a.store.now
     a.plaques.now in unfit full m ≡ refusal (2 when not (consistent full m))) = pass_if 1 _ (ap not (yes_and (eq-eqb _ _ c.if-store.false) ∙ eq-eqb _ _ c.if-plaques.false)) in
     sym (long ∙ this 2 (ap not (no_and _
-    (sym c.lists_ok.ensures ∙ not-true _ c.if-not-lists_ok.true))))
-
-pub nodes_ok-requires : goal.nodes_ok-requires
-unfolding unfit lent lengths
-nodes_ok-requires c = search rules
+    (sym c.lists_ok.ensures ∙ c.if-not-lists_ok.true))))
 
 pub returns-then-not-nodes_ok : goal.returns-then-not-nodes_ok
 unfolding consistent unfit lent lengths
@@ -50,45 +34,37 @@ returns-then-not-nodes_ok c =
     a.plaques.now in unfit full m ≡ refusal (2 when not (consistent full m))) = pass_if 1 _ (ap not (yes_and (eq-eqb _ _ c.if-store.false) ∙ eq-eqb _ _ c.if-plaques.false)) in
     -- a test that was passed
     let lists : (let a = c.args in lists_ok full
-    a.store.now a.s.nodes ≡ true) = sym c.lists_ok.ensures ∙ not-false _ c.if-not-lists_ok.false in
+    a.store.now a.s.nodes ≡ true) = sym c.lists_ok.ensures ∙ c.if-not-lists_ok.false in
     sym (long
-    ∙ this 2 (ap not (yes_and (lists) ∙ no_and _ (sym c.nodes_ok.ensures ∙ not-true _ c.if-not-nodes_ok.true))))
-
-pub readers_ok-requires : goal.readers_ok-requires
-unfolding unfit lent lengths
-readers_ok-requires c = search rules
+    ∙ this 2 (ap not (yes_and (lists) ∙ no_and _ (sym c.nodes_ok.ensures ∙ c.if-not-nodes_ok.true))))
 
 pub returns-then-not-readers_ok : goal.returns-then-not-readers_ok
 unfolding consistent unfit lent lengths
 returns-then-not-readers_ok c =
     -- a test that was passed
     let lists : (let a = c.args in lists_ok full
-    a.store.now a.s.nodes ≡ true) = sym c.lists_ok.ensures ∙ not-false _ c.if-not-lists_ok.false in
+    a.store.now a.s.nodes ≡ true) = sym c.lists_ok.ensures ∙ c.if-not-lists_ok.false in
     let nodes : every node_ok
-    c.args.s.nodes ≡ true = sym c.nodes_ok.ensures ∙ not-false _ c.if-not-nodes_ok.false in
+    c.args.s.nodes ≡ true = sym c.nodes_ok.ensures ∙ c.if-not-nodes_ok.false in
     -- past the lengths
     let long : (let a = c.args in let m = machine a.s a.store.now
     a.plaques.now in unfit full m ≡ refusal (2 when not (consistent full m))) = pass_if 1 _ (ap not (yes_and (eq-eqb _ _ c.if-store.false) ∙ eq-eqb _ _ c.if-plaques.false)) in
     let l = lists in
     let n = nodes in
     sym (long
-    ∙ this 2 (ap not (yes_and l ∙ yes_and n ∙ no_and _ (sym c.readers_ok.ensures ∙ not-true _ c.if-not-readers_ok.true))))
-
-pub name_ok-requires : goal.name_ok-requires
-unfolding unfit lent lengths
-name_ok-requires c = search rules
+    ∙ this 2 (ap not (yes_and l ∙ yes_and n ∙ no_and _ (sym c.readers_ok.ensures ∙ c.if-not-readers_ok.true))))
 
 pub returns-then-not-name_ok : goal.returns-then-not-name_ok
 unfolding consistent unfit lent lengths
 returns-then-not-name_ok c =
     -- a test that was passed
     let lists : (let a = c.args in lists_ok full
-    a.store.now a.s.nodes ≡ true) = sym c.lists_ok.ensures ∙ not-false _ c.if-not-lists_ok.false in
+    a.store.now a.s.nodes ≡ true) = sym c.lists_ok.ensures ∙ c.if-not-lists_ok.false in
     let nodes : every node_ok
-    c.args.s.nodes ≡ true = sym c.nodes_ok.ensures ∙ not-false _ c.if-not-nodes_ok.false in
+    c.args.s.nodes ≡ true = sym c.nodes_ok.ensures ∙ c.if-not-nodes_ok.false in
     let readers : every (reader_ok full)
     c.args.s.readers ≡
-    true = sym c.readers_ok.ensures ∙ not-false _ c.if-not-readers_ok.false in
+    true = sym c.readers_ok.ensures ∙ c.if-not-readers_ok.false in
     -- past the lengths
     let long : (let a = c.args in let m = machine a.s a.store.now
     a.plaques.now in unfit full m ≡ refusal (2 when not (consistent full m))) = pass_if 1 _ (ap not (yes_and (eq-eqb _ _ c.if-store.false) ∙ eq-eqb _ _ c.if-plaques.false)) in
@@ -96,19 +72,19 @@ returns-then-not-name_ok c =
     let n = nodes in
     let r = readers in
     sym (long
-    ∙ this 2 (ap not (yes_and l ∙ yes_and n ∙ yes_and r ∙ no_and _ (sym c.name_ok.ensures ∙ not-true _ c.if-not-name_ok.true))))
+    ∙ this 2 (ap not (yes_and l ∙ yes_and n ∙ yes_and r ∙ no_and _ (sym c.name_ok.ensures ∙ c.if-not-name_ok.true))))
 
 pub returns : goal.returns
 unfolding consistent unfit lent lengths arrays
 returns c =
     -- a test that was passed
     let lists : (let a = c.args in lists_ok full
-    a.store.now a.s.nodes ≡ true) = sym c.lists_ok.ensures ∙ not-false _ c.if-not-lists_ok.false in
+    a.store.now a.s.nodes ≡ true) = sym c.lists_ok.ensures ∙ c.if-not-lists_ok.false in
     let nodes : every node_ok
-    c.args.s.nodes ≡ true = sym c.nodes_ok.ensures ∙ not-false _ c.if-not-nodes_ok.false in
+    c.args.s.nodes ≡ true = sym c.nodes_ok.ensures ∙ c.if-not-nodes_ok.false in
     let readers : every (reader_ok full)
     c.args.s.readers ≡
-    true = sym c.readers_ok.ensures ∙ not-false _ c.if-not-readers_ok.false in
+    true = sym c.readers_ok.ensures ∙ c.if-not-readers_ok.false in
     -- past the lengths
     let long : (let a = c.args in let m = machine a.s a.store.now
     a.plaques.now in unfit full m ≡ refusal (2 when not (consistent full m))) = pass_if 1 _ (ap not (yes_and (eq-eqb _ _ c.if-store.false) ∙ eq-eqb _ _ c.if-plaques.false)) in
@@ -120,5 +96,5 @@ returns c =
     let l = lists in
     let n = nodes in
     let r = readers in
-    let x = sym c.name_ok.ensures ∙ not-false _ c.if-not-name_ok.false in
+    let x = sym c.name_ok.ensures ∙ c.if-not-name_ok.false in
     sym (long ∙ none 2 (ap not (yes_and l ∙ yes_and n ∙ yes_and r ∙ yes_and x ∙ sized)))

@@ -17,8 +17,8 @@ is_counted-requires c =
     let a = c.args in
     let n = nodes_each in
     let i = c.loop-i.i in record {
-      in_store = subst (λ (x : Node). InStore full a.store.now i x.list) (sym (node_any a.t1 i (omega arith)))
-          (fine_ok full a.store.now a.t1 c.requires.1 i (omega arith));
+      in_store = subst (λ (x : Node). InStore full a.store.now i x.list) (sym (node_any a.nodes i (omega arith)))
+          (fine_ok full a.store.now a.nodes c.requires.1 i (omega arith));
       store_len = c.requires.0;
     }
 
@@ -34,7 +34,7 @@ returns-then-not-is_counted c =
     let n = nodes_each in
     let l = c.loop-i in
     sym (l.invariant.1 ∙ every_at (count_right c.args.store.now) _ l.i fresh_node (omega arith) ∙ no_and _
-    (here ∙ not-true _ c.if-not-is_counted.true))
+    (here ∙ c.if-not-is_counted.true))
 
 pub loop-i-preserved : goal.loop-i-preserved
 unfolding count_right
@@ -49,7 +49,7 @@ loop-i-preserved c =
     let l = c.loop-i in (
       omega arith,
       l.invariant.1 ∙ every_at (count_right c.args.store.now) _ l.i fresh_node (omega arith) ∙ yes_and
-          (here ∙ not-false _ c.if-not-is_counted.false),
+          (here ∙ c.if-not-is_counted.false),
     )
 
 pub returns : goal.returns

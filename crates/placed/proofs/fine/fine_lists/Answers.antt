@@ -32,7 +32,7 @@ loop-k-init c =
 pub offset_bounds-store-place : goal.offset_bounds-store-place
 offset_bounds-store-place c =
     -- past the first test: the answer is in order ..
-    let in_order : ok_answer full ((c.args.store.now)) ((c.nodes.i)) ((c.loop-k.place)) ≡ true = ok_front _ _ _ _ ∙ sym c.answer_ok.ensures ∙ not-false _ c.if-not-answer_ok.false in
+    let in_order : ok_answer full ((c.args.store.now)) ((c.nodes.i)) ((c.loop-k.place)) ≡ true = ok_front _ _ _ _ ∙ sym c.answer_ok.ensures ∙ c.if-not-answer_ok.false in
     -- .. and lies inside the store
     let inside : (c.loop-k.place) + get_or ((c.args.store.now)) ((c.loop-k.place)) 0 ≤ 4096 = omega (arith, (lies _ _ _ _ (in_order)).inside, c.requires) in
     record { fits = omega (arith, inside) }
@@ -40,18 +40,15 @@ offset_bounds-store-place c =
 pub bounds-store-place : goal.bounds-store-place
 bounds-store-place c =
     -- past the first test: the answer is in order ..
-    let in_order : ok_answer full ((c.args.store.now)) ((c.nodes.i)) ((c.loop-k.place)) ≡ true = ok_front _ _ _ _ ∙ sym c.answer_ok.ensures ∙ not-false _ c.if-not-answer_ok.false in
+    let in_order : ok_answer full ((c.args.store.now)) ((c.nodes.i)) ((c.loop-k.place)) ≡ true = ok_front _ _ _ _ ∙ sym c.answer_ok.ensures ∙ c.if-not-answer_ok.false in
     -- .. and lies inside the store
     let inside : (c.loop-k.place) + get_or ((c.args.store.now)) ((c.loop-k.place)) 0 ≤ 4096 = omega (arith, (lies _ _ _ _ (in_order)).inside, c.requires) in
     omega (arith, inside, (lies _ _ _ _ (in_order)).least, c.requires)
 
-pub overflow_cast-len : goal.overflow_cast-len
-overflow_cast-len c = record { fits = omega (arith, c.shared_slice_known-in-loop-k-1.given ((c.loop-k.place))) }
-
 pub all_free-requires : goal.all_free-requires
 all_free-requires c =
     -- past the first test: the answer is in order ..
-    let in_order : ok_answer full ((c.args.store.now)) ((c.nodes.i)) ((c.loop-k.place)) ≡ true = ok_front _ _ _ _ ∙ sym c.answer_ok.ensures ∙ not-false _ c.if-not-answer_ok.false in
+    let in_order : ok_answer full ((c.args.store.now)) ((c.nodes.i)) ((c.loop-k.place)) ≡ true = ok_front _ _ _ _ ∙ sym c.answer_ok.ensures ∙ c.if-not-answer_ok.false in
     -- .. and lies inside the store
     let inside : (c.loop-k.place) + get_or ((c.args.store.now)) ((c.loop-k.place)) 0 ≤ 4096 = omega (arith, (lies _ _ _ _ (in_order)).inside, c.requires) in
     inside
@@ -59,7 +56,7 @@ all_free-requires c =
 pub mark-requires : goal.mark-requires
 mark-requires c =
     -- past the first test: the answer is in order ..
-    let in_order : ok_answer full ((c.args.store.now)) ((c.nodes.i)) ((c.loop-k.place)) ≡ true = ok_front _ _ _ _ ∙ sym c.answer_ok.ensures ∙ not-false _ c.if-not-answer_ok.false in
+    let in_order : ok_answer full ((c.args.store.now)) ((c.nodes.i)) ((c.loop-k.place)) ≡ true = ok_front _ _ _ _ ∙ sym c.answer_ok.ensures ∙ c.if-not-answer_ok.false in
     -- .. and lies inside the store
     let inside : (c.loop-k.place) + get_or ((c.args.store.now)) ((c.loop-k.place)) 0 ≤ 4096 = omega (arith, (lies _ _ _ _ (in_order)).inside, c.requires) in
     (inside, c.loop-k.invariant.3.long)
@@ -67,7 +64,7 @@ mark-requires c =
 pub overflow_add-place : goal.overflow_add-place
 overflow_add-place c =
     -- past the first test: the answer is in order ..
-    let in_order : ok_answer full ((c.args.store.now)) ((c.nodes.i)) ((c.loop-k.place)) ≡ true = ok_front _ _ _ _ ∙ sym c.answer_ok.ensures ∙ not-false _ c.if-not-answer_ok.false in
+    let in_order : ok_answer full ((c.args.store.now)) ((c.nodes.i)) ((c.loop-k.place)) ≡ true = ok_front _ _ _ _ ∙ sym c.answer_ok.ensures ∙ c.if-not-answer_ok.false in
     -- .. and lies inside the store
     let inside : (c.loop-k.place) + get_or ((c.args.store.now)) ((c.loop-k.place)) 0 ≤ 4096 = omega (arith, (lies _ _ _ _ (in_order)).inside, c.requires) in
     record { fits = omega (arith, inside) }
@@ -75,7 +72,7 @@ overflow_add-place c =
 pub overflow_add-k : goal.overflow_add-k
 overflow_add-k c =
     -- past the first test: the answer is in order ..
-    let in_order : ok_answer full ((c.args.store.now)) ((c.nodes.i)) ((c.loop-k.place)) ≡ true = ok_front _ _ _ _ ∙ sym c.answer_ok.ensures ∙ not-false _ c.if-not-answer_ok.false in
+    let in_order : ok_answer full ((c.args.store.now)) ((c.nodes.i)) ((c.loop-k.place)) ≡ true = ok_front _ _ _ _ ∙ sym c.answer_ok.ensures ∙ c.if-not-answer_ok.false in
     -- .. and lies inside the store
     let inside : (c.loop-k.place) + get_or ((c.args.store.now)) ((c.loop-k.place)) 0 ≤ 4096 = omega (arith, (lies _ _ _ _ (in_order)).inside, c.requires) in
     record { fits = omega (arith, inside) }
@@ -83,7 +80,7 @@ overflow_add-k c =
 pub loop-k-preserved : goal.loop-k-preserved
 loop-k-preserved c =
     -- past the first test: the answer is in order ..
-    let in_order : ok_answer full ((c.args.store.now)) ((c.nodes.i)) ((c.loop-k.place)) ≡ true = ok_front _ _ _ _ ∙ sym c.answer_ok.ensures ∙ not-false _ c.if-not-answer_ok.false in
+    let in_order : ok_answer full ((c.args.store.now)) ((c.nodes.i)) ((c.loop-k.place)) ≡ true = ok_front _ _ _ _ ∙ sym c.answer_ok.ensures ∙ c.if-not-answer_ok.false in
     -- .. and lies inside the store
     let inside : (c.loop-k.place) + get_or ((c.args.store.now)) ((c.loop-k.place)) 0 ≤ 4096 = omega (arith, (lies _ _ _ _ (in_order)).inside, c.requires) in
     let w = walk_at _ _ _ _ _ _ _ c.loop-k.k _ c.loop-k-test.true c.loop-k.invariant.3 in (
@@ -92,7 +89,7 @@ loop-k-preserved c =
       c.loop-k.invariant.2,
       ⊎_elim
           (λ f. walk_next _ _ _ _ _ _ _ _ _ w (in_order) (inside) f.1 c.mark.ensures)
-          (λ f. absurd (apart (not-false _ c.if-not-all_free.false) f.0))
+          (λ f. absurd (apart (c.if-not-all_free.false) f.0))
           c.all_free.ensures,
     )
 
@@ -114,16 +111,16 @@ pub returns-then-not-answer_ok : goal.returns-then-not-answer_ok
 returns-then-not-answer_ok c =
     let w = walk_at _ _ _ _ _ _ _ c.loop-k.k _ c.loop-k-test.true
     c.loop-k.invariant.3 in
-    sym (walk_bad _ _ _ _ _ _ _ _ w (ok_front _ _ _ _ ∙ sym c.answer_ok.ensures ∙ not-true _ c.if-not-answer_ok.true))
+    sym (walk_bad _ _ _ _ _ _ _ _ w (ok_front _ _ _ _ ∙ sym c.answer_ok.ensures ∙ c.if-not-answer_ok.true))
 
 pub returns-then-not-all_free : goal.returns-then-not-all_free
 returns-then-not-all_free c =
     -- past the first test: the answer is in order ..
-    let in_order : ok_answer full ((c.args.store.now)) ((c.nodes.i)) ((c.loop-k.place)) ≡ true = ok_front _ _ _ _ ∙ sym c.answer_ok.ensures ∙ not-false _ c.if-not-answer_ok.false in
+    let in_order : ok_answer full ((c.args.store.now)) ((c.nodes.i)) ((c.loop-k.place)) ≡ true = ok_front _ _ _ _ ∙ sym c.answer_ok.ensures ∙ c.if-not-answer_ok.false in
     -- .. and lies inside the store
     let inside : (c.loop-k.place) + get_or ((c.args.store.now)) ((c.loop-k.place)) 0 ≤ 4096 = omega (arith, (lies _ _ _ _ (in_order)).inside, c.requires) in
     let w = walk_at _ _ _ _ _ _ _ c.loop-k.k _ c.loop-k-test.true c.loop-k.invariant.3 in
     ⊎_elim
-    (λ f. absurd (apart f.0 (not-true _ c.if-not-all_free.true)))
+    (λ f. absurd (apart f.0 (c.if-not-all_free.true)))
     (λ f. sym (walk_taken _ _ _ _ _ _ _ _ w (in_order) (inside) f.1))
     c.all_free.ensures

@@ -54,11 +54,6 @@ bounds-store-place c =
     lies _ _ _ _ (subst (λ (p : ℕ). ok_answer full a.store.now a.i p ≡ true) e (c.requires.in_store k c.loop-k-test.true)) in
     omega (arith, (next).inside, (next).least)
 
-pub overflow_cast-sum : goal.overflow_cast-sum
-overflow_cast-sum c =
-    let a = c.args in
-    record { fits = omega (arith, c.shared_slice_known-1.given (a.list.place + c.loop-k.sum)) }
-
 pub overflow_add-sum : goal.overflow_add-sum
 overflow_add-sum c =
     -- the answer that begins behind those passed is in order
@@ -72,14 +67,6 @@ overflow_add-sum c =
     lies _ _ _ _ (subst (λ (p : ℕ). ok_answer full a.store.now a.i p ≡ true) e (c.requires.in_store k c.loop-k-test.true)) in
     record { fits = omega (arith, (next).inside, c.requires.store_len) }
 
-pub overflow_add-k : goal.overflow_add-k
-unfolding added starts_of
-overflow_add-k c = search rules
-
-pub loop-k-smaller : goal.loop-k-smaller
-unfolding added starts_of
-loop-k-smaller c = search rules
-
 pub loop-k-preserved : goal.loop-k-preserved
 loop-k-preserved c =
     let a = c.args in (
@@ -90,10 +77,6 @@ loop-k-preserved c =
             c.loop-k.invariant.1,
       ),
     )
-
-pub overflow_cast-result : goal.overflow_cast-result
-unfolding added starts_of
-overflow_cast-result c = search rules
 
 pub returns : goal.returns
 unfolding pending_of

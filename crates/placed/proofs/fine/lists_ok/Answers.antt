@@ -6,66 +6,50 @@ use Rattle.placed.specs.Consistent.{fine_lists, count_right, helds_of, lists_ok}
 use Rattle.placed.proofs.InOrder.{counted_is}
 use Rattle.placed.proofs.fine.lists_ok.Goals as goal
 
-pub fine_lists-requires : goal.fine_lists-requires
-unfolding lists_ok
-fine_lists-requires c = search rules
-
 pub returns-then-not-fine_lists : goal.returns-then-not-fine_lists
 unfolding lists_ok
-returns-then-not-fine_lists c = sym (no_and _ (sym c.fine_lists.ensures ∙ not-true _ c.if-not-fine_lists.true))
+returns-then-not-fine_lists c = sym (no_and _ (sym c.fine_lists.ensures ∙ c.if-not-fine_lists.true))
 
 pub all_counted-requires : goal.all_counted-requires
 unfolding lists_ok
 all_counted-requires c =
     -- past the first test
-    let fine : fine_lists full c.args.store.now c.args.nodes ≡ true = sym c.fine_lists.ensures ∙ not-false _ c.if-not-fine_lists.false in
+    let fine : fine_lists full c.args.store.now c.args.nodes ≡ true = sym c.fine_lists.ensures ∙ c.if-not-fine_lists.false in
     (c.requires, fine)
 
 pub returns-then-not-all_counted : goal.returns-then-not-all_counted
 unfolding lists_ok
 returns-then-not-all_counted c =
     -- past the first test
-    let fine : fine_lists full c.args.store.now c.args.nodes ≡ true = sym c.fine_lists.ensures ∙ not-false _ c.if-not-fine_lists.false in
-    sym (yes_and (fine) ∙ no_and _ (sym c.all_counted.ensures ∙ not-true _ c.if-not-all_counted.true))
-
-pub helds-requires : goal.helds-requires
-unfolding lists_ok
-helds-requires c = search rules
-
-pub bounds_met-requires : goal.bounds_met-requires
-unfolding lists_ok
-bounds_met-requires c = search rules
+    let fine : fine_lists full c.args.store.now c.args.nodes ≡ true = sym c.fine_lists.ensures ∙ c.if-not-fine_lists.false in
+    sym (yes_and (fine) ∙ no_and _ (sym c.all_counted.ensures ∙ c.if-not-all_counted.true))
 
 pub returns-then-not-bounds_met : goal.returns-then-not-bounds_met
 unfolding lists_ok
 returns-then-not-bounds_met c =
     -- past the first test
-    let fine : fine_lists full c.args.store.now c.args.nodes ≡ true = sym c.fine_lists.ensures ∙ not-false _ c.if-not-fine_lists.false in
+    let fine : fine_lists full c.args.store.now c.args.nodes ≡ true = sym c.fine_lists.ensures ∙ c.if-not-fine_lists.false in
     -- past the second
     let right : every (count_right c.args.store.now)
-    c.args.nodes ≡ true = sym c.all_counted.ensures ∙ not-false _ c.if-not-all_counted.false in
+    c.args.nodes ≡ true = sym c.all_counted.ensures ∙ c.if-not-all_counted.false in
     -- what the third says
     let bounds : bounded full (helds_of c.args.store.now
     c.args.nodes) ≡ c.bounds_met.result = ap (bounded full) (sym (counted_is _ _ (right)) ∙ sym c.helds.ensures) ∙ sym
     c.bounds_met.ensures in
-    sym (yes_and (fine) ∙ yes_and (right) ∙ no_and _ (bounds ∙ not-true _ c.if-not-bounds_met.true))
-
-pub lists_clear-requires : goal.lists_clear-requires
-unfolding lists_ok
-lists_clear-requires c = search rules
+    sym (yes_and (fine) ∙ yes_and (right) ∙ no_and _ (bounds ∙ c.if-not-bounds_met.true))
 
 pub returns : goal.returns
 unfolding lists_ok
 returns c =
     -- past the first test
-    let fine : fine_lists full c.args.store.now c.args.nodes ≡ true = sym c.fine_lists.ensures ∙ not-false _ c.if-not-fine_lists.false in
+    let fine : fine_lists full c.args.store.now c.args.nodes ≡ true = sym c.fine_lists.ensures ∙ c.if-not-fine_lists.false in
     -- past the second
     let right : every (count_right c.args.store.now)
-    c.args.nodes ≡ true = sym c.all_counted.ensures ∙ not-false _ c.if-not-all_counted.false in
+    c.args.nodes ≡ true = sym c.all_counted.ensures ∙ c.if-not-all_counted.false in
     -- what the third says
     let bounds : bounded full (helds_of c.args.store.now
     c.args.nodes) ≡ c.bounds_met.result = ap (bounded full) (sym (counted_is _ _ (right)) ∙ sym c.helds.ensures) ∙ sym
     c.bounds_met.ensures in
     c.lists_clear.ensures
     ∙ sym (yes_and (fine) ∙ yes_and (right) ∙ yes_and
-    (bounds ∙ not-false _ c.if-not-bounds_met.false))
+    (bounds ∙ c.if-not-bounds_met.false))
