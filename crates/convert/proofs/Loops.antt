@@ -13,9 +13,10 @@ use Rattle.state.proofs.Lists.{map_append}
 use Rattle.lists.specs.Room.{sum, place_of}
 use lib.Seq.{sets, length-sets}
 use Rattle.units.proofs.PackingLaws.{sets_fits, sets_full}
+use Rattle.placed.proofs.InOrder.{blank, node_any}
 use Rattle.placed.specs.Walked.{words_of}
 use Rattle.placed.specs.declared.Node as O
-use Rattle.convert.specs.Convert.{held_by, runs_of, new_store, old_nodes}
+use Rattle.convert.specs.Convert.{held_by, runs_of, new_store, old_nodes, EachInside}
 
 -- ---- words copied in
 -- copied to the front of zeros, and all of it back
@@ -57,6 +58,25 @@ runs_fewer store ns k =
     let e : runs_of store (take k ns) ++ runs_of store (drop k ns) ≡ runs_of store ns =
     sym (runs_append store (take k ns) (drop k ns)) ∙ ap (runs_of store) (take-append-drop k ns) in
     omega (arith, simp length-append at (ap length e))
+
+-- the list at k lies inside the store, and its words have room behind those of the lists before it
+pub record Turn (st : List ℕ) (ns : List O.Node) (room k to : ℕ) : Type 0 where
+  pub inside : (get_or ns k blank).list.place + (get_or ns k blank).list.words.0 ≤ length st
+  pub more : runs_of st (take (k + 1) ns) ≡ runs_of st (take k ns) ++ run st (get_or ns k blank)
+  pub wide : length (run st (get_or ns k blank)) ≡ (get_or ns k blank).list.words.0
+  pub next : to + (get_or ns k blank).list.words.0 ≡ length (runs_of st (take (k + 1) ns))
+  pub fits : to + (get_or ns k blank).list.words.0 ≤ room
+
+pub turn : (st : List ℕ) (ns : List O.Node) (room k to : ℕ) → k < length ns → EachInside (length st) ns → length (runs_of st ns) ≤ room
+    → to ≡ length (runs_of st (take k ns)) → Turn st ns room k to
+turn st ns room k to h e r t =
+    let n = get_or ns k blank in
+    let i : n.list.place + n.list.words.0 ≤ length st = rw (node_any ns k h) (e k h) in
+    let m = runs_more st blank ns k h in
+    let w = length_run st n i in
+    let g = ap length m ∙ length-append (runs_of st (take k ns)) (run st n) in
+    let x : to + n.list.words.0 ≡ length (runs_of st (take (k + 1) ns)) = omega arith in
+    record { inside = i; more = m; wide = w; next = x; fits = omega (arith, runs_fewer st ns (k + 1)) }
 
 -- ---- an array that a loop fills: one element more
 pub map_filled : {A B : Type 0} (f : A → B) (ns : List A) (out : List B) (k : ℕ) (d : A) (m : B) → k < length ns → k < length out

@@ -37,7 +37,7 @@ pub copy_in-requires : goal.copy_in-requires
 copy_in-requires c =
     let fits : unfit full ((machine c.args.s c.args.store.now c.args.plaques.now)) ≡ 0 = sym c.unfit-refusal.ensures ∙ c.if-refusal-ne0.false in
     let known : Parts full ((machine c.args.s c.args.store.now c.args.plaques.now)) = parts full ((machine c.args.s c.args.store.now c.args.plaques.now)) (fits) in
-    let w : length c.lay.new.1.1.0 ≡ 4096 = search rules in
+    let w : length c.lay.new.out ≡ 4096 = search rules in
     omega (arith, (known).store)
 
 pub without_places-requires : goal.without_places-requires
@@ -63,7 +63,7 @@ returns c =
     let st = c.args.store.now in
     let ns = c.args.s.nodes in
     let z : replicate {A = ℕ} 4096 0 ≡ replicate (length st) 0 = ap (λ (n : ℕ). replicate n 0) (sym (known).store) in
-    let w : c.copy_in.new.1.0 ≡ new_store st ns =
+    let w : c.copy_in.new.dst ≡ new_store st ns =
     c.copy_in.ensures ∙ ap (sets st 0) c.lay.ensures ∙ ap (λ (v : List ℕ). sets st 0 (sets v 0 (runs_of st ns))) z
     ∙ new_is st ns (omega (arith, room, (known).store)) in
     record {

@@ -11,46 +11,11 @@ use Rattle.lists.proofs.Places.{place_suc, place_in}
 use Rattle.convert.specs.Convert.{old_nodes}
 use Rattle.convert.proofs.Loops.{old_filled}
 use Rattle.convert.proofs.with_places.Goals as goal
-
-pub silent_placed-ns-requires : goal.silent_placed-ns-requires
-unfolding old_nodes sum
-silent_placed-ns-requires c = search rules
+use Rattle.convert.proofs.with_places.Goals.{then-n-ne0, else-n-ne0}
 
 pub loop-k-init : goal.loop-k-init
 unfolding old_nodes sum
 loop-k-init c = (omega arith, ap length c.silent_placed-ns.ensures, refl, refl)
-
-pub offset_bounds-nodes-k : goal.offset_bounds-nodes-k
-unfolding old_nodes sum
-offset_bounds-nodes-k c = search rules
-
-pub bounds-nodes-k : goal.bounds-nodes-k
-unfolding old_nodes sum
-bounds-nodes-k c = search rules
-
-pub offset_bounds-held-k : goal.offset_bounds-held-k
-unfolding old_nodes sum
-offset_bounds-held-k c = search rules
-
-pub bounds-held-k : goal.bounds-held-k
-unfolding old_nodes sum
-bounds-held-k c = search rules
-
-pub overflow_cast-pending : goal.overflow_cast-pending
-unfolding old_nodes sum
-overflow_cast-pending c = search rules
-
-pub offset_bounds-ns-k : goal.offset_bounds-ns-k
-unfolding old_nodes sum
-offset_bounds-ns-k c = search rules
-
-pub bounds-ns-k : goal.bounds-ns-k
-unfolding old_nodes sum
-bounds-ns-k c = search rules
-
-pub overflow_cast-to : goal.overflow_cast-to
-unfolding old_nodes sum
-overflow_cast-to c = search rules
 
 pub overflow_add-to : goal.overflow_add-to
 overflow_add-to c =
@@ -62,14 +27,6 @@ overflow_add-to c =
     place_suc (counts hs) k (omega arith) ∙ ap (λ (x : ℕ). place_of (counts hs) k + x) (get_or-map (λ (w : Words). w.0) hs k nothing) in
     let l = c.loop-k in
     record { fits = omega (arith, more l.k (omega arith), place_in (counts c.args.held) (l.k + 1), c.requires, l.invariant.2) }
-
-pub overflow_add-k : goal.overflow_add-k
-unfolding old_nodes sum
-overflow_add-k c = search rules
-
-pub loop-k-smaller : goal.loop-k-smaller
-unfolding old_nodes sum
-loop-k-smaller c = search rules
 
 pub loop-k-preserved : goal.loop-k-preserved
 unfolding old_nodes
@@ -87,10 +44,10 @@ loop-k-preserved c =
     let m : ℕ = (get_or ns l.k blank).answers in
     let i = c.if-n-ne0 in
     let p : i.place ≡ cond (eqb m 0) 0 l.to =
-    ⊎_elim
-    (λ w. w.1 ∙ sym (no_cond 0 (ne_eqb m 0 w.0.taken)))
-    (λ w. w.1 ∙ sym (yes_cond l.to (eq-eqb m 0 w.0.left)))
-    i.branch in (
+    elim i.branch [
+      then-n-ne0 w ↦ w.place-is ∙ sym (no_cond 0 (ne_eqb m 0 w.if-n-ne0.true))
+    | else-n-ne0 w ↦ w.place-is ∙ sym (yes_cond l.to (eq-eqb m 0 w.if-n-ne0.false))
+    ] in (
       omega arith,
       simp length-set l.invariant.1,
       omega (arith, more l.k (omega arith), l.invariant.2),
