@@ -1,7 +1,7 @@
 -- The count is that of the line feeds of the blocks that were counted.
 -- Assumes nothing.
-use Rattle.units.proofs.Common.{◌≡◌, refl, ◌≤◌, ◌-◌, arith, length, drop, take, rules}
-use Rattle.gather.proofs.Counts.{feeds_in, feeds_few, block_few, block_on, rest_on}
+use Rattle.units.proofs.Common.{◌≡◌, ◌≤◌, ◌-◌, length, take}
+use Rattle.gather.proofs.Counts.{feeds_in}
 use Rattle.gather.proofs.all_feeds.Given as goal
 
 abbrev pub invariant-loop-at : goal.invariant-loop-at

@@ -1,8 +1,9 @@
 -- Whether there is a line feed among the bytes that were looked at.
 -- Assumes nothing.
-use Rattle.units.proofs.Common.{sym, ◌∙◌, ◌≡◌, refl, ⊎_elim, ◌≤◌, ◌-◌, arith, drop, take, rules}
+use Rattle.units.proofs.Common.{sym, ◌∙◌, ◌≡◌, refl, arith}
 use Rattle.gather.specs.Pieces.{fed}
 use Rattle.gather.proofs.Pieces.{block_fed, block_same}
+use Rattle.gather.proofs.any_feed.Goals.{then-bytes-at-eq10, else-bytes-at-eq10}
 use Rattle.gather.proofs.any_feed.Goals as goal
 
 pub loop-k-init : goal.loop-k-init
@@ -15,9 +16,10 @@ loop-k-preserved c =
     let at = c.args.at in
     let k = c.loop-k.k in (
       omega arith,
-      ⊎_elim (λ w. w.1 ∙ sym (block_fed bs at k (omega arith) w.0.taken))
-          (λ w. w.1 ∙ c.loop-k.invariant.1 ∙ sym (block_same bs at k (omega arith) w.0.left))
-          c.if-bytes-at-eq10.branch,
+      elim c.if-bytes-at-eq10.branch [
+        | then-bytes-at-eq10 w ↦ w.any-is ∙ sym (block_fed bs at k (omega arith) w.if-bytes-at-eq10.true)
+        | else-bytes-at-eq10 w ↦ w.any-is ∙ c.loop-k.invariant.1 ∙ sym (block_same bs at k (omega arith) w.if-bytes-at-eq10.false)
+      ],
     )
 
 pub returns : goal.returns

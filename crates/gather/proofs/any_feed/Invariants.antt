@@ -1,8 +1,7 @@
 -- Whether there is a line feed among the bytes that were looked at.
 -- Assumes nothing.
-use Rattle.units.proofs.Common.{sym, ◌∙◌, ◌≡◌, refl, ⊎_elim, ◌≤◌, ◌-◌, arith, drop, take, rules}
+use Rattle.units.proofs.Common.{◌≡◌, ◌≤◌, ◌-◌, drop, take}
 use Rattle.gather.specs.Pieces.{fed}
-use Rattle.gather.proofs.Pieces.{block_fed, block_same}
 use Rattle.gather.proofs.any_feed.Given as goal
 
 abbrev pub invariant-loop-k : goal.invariant-loop-k

@@ -1,6 +1,6 @@
 -- Without bytes there is no line; else the last byte says whether the line feeds are all.
 -- Assumes nothing.
-use Rattle.units.proofs.Common.{sym, ◌∙◌, ap, ◌-◌, arith, length, rules}
+use Rattle.units.proofs.Common.{sym, ◌∙◌, ap, ◌-◌, arith, length}
 use Rattle.gather.proofs.Pieces.{lines_end}
 use Rattle.gather.proofs.Counts.{feeds_few, lines_whole, lines_part}
 use Rattle.gather.proofs.count_lines.Goals as goal

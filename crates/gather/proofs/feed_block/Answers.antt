@@ -1,7 +1,6 @@
 -- From where the loop stands the line ends where it ends from its start: no block without a line feed holds its end.
 -- Assumes nothing.
-use Rattle.units.proofs.Common.{sym, ◌∙◌, ◌≡◌, ◌≤◌, ◌-◌, ◌+◌, arith, length, drop, rules}
-use Rattle.gather.specs.Pieces.{line_in}
+use Rattle.units.proofs.Common.{sym, ◌∙◌, arith}
 use Rattle.gather.proofs.Pieces.{block_past}
 use Rattle.gather.proofs.feed_block.Goals as goal
 

@@ -1,7 +1,6 @@
 -- From where the loop stands the line ends where it ends from its start: no line feed stands between.
 -- Assumes nothing.
-use Rattle.units.proofs.Common.{◌≡◌, ap, ℕ, ◌-◌, ◌+◌, arith, length, drop, rules}
-use Rattle.gather.specs.Pieces.{line_in}
+use Rattle.units.proofs.Common.{ap, arith, length}
 use Rattle.gather.proofs.Pieces.{at_feed, at_other, at_end}
 use Rattle.gather.proofs.feed_byte.Goals as goal
 

@@ -1,8 +1,7 @@
 -- From where the loop stands the line ends where it ends from its start: no line feed stands between.
 -- Assumes nothing.
-use Rattle.units.proofs.Common.{◌≡◌, ap, ℕ, ◌-◌, ◌+◌, arith, length, drop, rules}
+use Rattle.units.proofs.Common.{◌≡◌, ℕ, ◌-◌, ◌+◌, length, drop}
 use Rattle.gather.specs.Pieces.{line_in}
-use Rattle.gather.proofs.Pieces.{at_feed, at_other, at_end}
 use Rattle.gather.proofs.feed_byte.Given as goal
 
 abbrev pub invariant-loop-at : goal.invariant-loop-at

@@ -1,7 +1,8 @@
 -- The count is that of the line feeds among the bytes that were looked at.
 -- Assumes nothing.
-use Rattle.units.proofs.Common.{◌∙◌, ◌≡◌, refl, ⊎_elim, ◌≤◌, ◌-◌, arith, drop, take, rules}
-use Rattle.gather.proofs.Counts.{feeds_in, feed_next, other_next}
+use Rattle.units.proofs.Common.{◌∙◌, ◌≡◌, refl, arith}
+use Rattle.gather.proofs.Counts.{feed_next, other_next}
+use Rattle.gather.proofs.feeds.Goals.{then-bytes-from-eq10, else-bytes-from-eq10}
 use Rattle.gather.proofs.feeds.Goals as goal
 
 pub loop-k-init : goal.loop-k-init
@@ -13,10 +14,11 @@ loop-k-preserved c =
     let from = c.args.from in
     let k = c.loop-k.k in (
       omega arith,
-      ⊎_elim (λ w. omega arith) (λ w. omega arith) c.if-bytes-from-eq10.branch,
-      ⊎_elim (λ w. omega (arith, feed_next bs from k (omega arith) w.0.taken))
-          (λ w. omega (arith, other_next bs from k (omega arith) w.0.left))
-          c.if-bytes-from-eq10.branch,
+      elim c.if-bytes-from-eq10.branch [ then-bytes-from-eq10 w ↦ omega arith | else-bytes-from-eq10 w ↦ omega arith ],
+      elim c.if-bytes-from-eq10.branch [
+        | then-bytes-from-eq10 w ↦ omega (arith, feed_next bs from k (omega arith) w.if-bytes-from-eq10.true)
+        | else-bytes-from-eq10 w ↦ omega (arith, other_next bs from k (omega arith) w.if-bytes-from-eq10.false)
+      ],
     )
 
 pub returns : goal.returns

@@ -1,7 +1,7 @@
 -- The count is that of the line feeds among the bytes that were looked at.
 -- Assumes nothing.
-use Rattle.units.proofs.Common.{◌∙◌, ◌≡◌, refl, ⊎_elim, ◌≤◌, ◌-◌, arith, drop, take, rules}
-use Rattle.gather.proofs.Counts.{feeds_in, feed_next, other_next}
+use Rattle.units.proofs.Common.{◌≡◌, ◌≤◌, ◌-◌, drop, take}
+use Rattle.gather.proofs.Counts.{feeds_in}
 use Rattle.gather.proofs.feeds.Given as goal
 
 abbrev pub invariant-loop-k : goal.invariant-loop-k

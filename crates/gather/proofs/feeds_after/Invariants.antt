@@ -1,7 +1,7 @@
 -- The count, and the line feeds from where the loop stands, are those from its start.
 -- Assumes nothing.
-use Rattle.units.proofs.Common.{◌≡◌, ⊎_elim, ◌≤◌, ◌-◌, ◌+◌, arith, length, drop, rules}
-use Rattle.gather.proofs.Counts.{feeds_in, feed_on, other_on, none_on}
+use Rattle.units.proofs.Common.{◌≡◌, ◌≤◌, ◌-◌, ◌+◌, length, drop}
+use Rattle.gather.proofs.Counts.{feeds_in}
 use Rattle.gather.proofs.feeds_after.Given as goal
 
 abbrev pub invariant-loop-i : goal.invariant-loop-i

@@ -1,6 +1,6 @@
 -- Past the bytes no line is left; before their end it is that of the two searches, one behind the other.
 -- Assumes nothing.
-use Rattle.units.proofs.Common.{ap, arith, length, rules}
+use Rattle.units.proofs.Common.{ap, arith, length}
 use Rattle.gather.proofs.Pieces.{at_end}
 use Rattle.gather.proofs.line_end.Goals as goal
 
