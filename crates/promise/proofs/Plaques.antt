@@ -2,7 +2,7 @@
 -- Assumes nothing.
 use Rattle.units.proofs.Common.{sym, ◌∙◌, ◌≡◌, refl, ap, subst, true, false, not, List, ℕ, ◌≤◌, ◌-◌, ◌+◌, ◌*◌, add-zero, le_refl, arith}
 use Rattle.units.proofs.Common.{leb, length, get_or, paste, eq-eqb, ne_eqb, leb-true, within, yes_cond, no_cond, and_true}
-use Rattle.meaning.proofs.Terms.{◌when◌, refusal, Bench, is_reader, empty, plaque, set_reader, set_field, leave, arrive, refused, answered}
+use Rattle.meaning.proofs.Terms.{◌when◌, refusal, Bench, is_reader, empty, set_reader, set_field, leave, arrive, refused, answered}
 use Rattle.meaning.proofs.Terms.{done, asked, judged, named, left, at_reader}
 use Rattle.meaning.specs.Call.{arrived}
 use Rattle.meaning.proofs.Chain.{none, this, pass_if, stop_if}

@@ -4,7 +4,7 @@ use Rattle.units.proofs.Common.{rules, sym, ◌∙◌, ◌≡◌, refl, ap, fun_
 use Rattle.units.proofs.Common.{length, get_or, set, length-set, eq-eqb, le-leb, eqb-true, leb-true, eqb-false, every, and_true, yes_cond}
 use Rattle.units.proofs.Common.{no_cond}
 use Rattle.units.specs.declared.Bytes.{Bytes}
-use Rattle.meaning.proofs.Terms.{Bench, is_reader, plaque, last, on, put, set_reader, set_mode}
+use Rattle.meaning.proofs.Terms.{Bench, is_reader, last, on, put, set_reader, set_mode}
 use Rattle.meaning.specs.Gateway as M
 use Rattle.machine.proofs.Terms.{fresh_reader, no_plaque, no_report, Machine, machine, meaning, seen, readers_of, reader_of, field_of, mode_of}
 use Rattle.machine.proofs.Terms.{report_of, region_of, plaque_ok, reading_ok, report_ok, reader_ok, unfit}

@@ -1,10 +1,10 @@
 -- What every call promises, against the meaning.
 -- Assumes nothing.
-use Rattle.std.specs.Prelude.{ℕ, ◌≡◌, Bool, true, false, cond, List, [], ◌∷◌, eqb, length}
+use Rattle.std.specs.Prelude.{ℕ, ◌≡◌, Bool, true, false, cond, List, eqb, length}
 use Rattle.std.proofs.lemmas.List.Edits.{sets}
 use Rattle.meaning.specs.Bench.{Bench}
 use Rattle.meaning.specs.Gateway.{Gateway}
-use Rattle.meaning.specs.Call.{Call, Said, refused, answered, queued, Result, done, quiet, handed, Outcome, step}
+use Rattle.meaning.specs.Call.{Call, Said, refused, answered, queued, done, quiet, handed, Outcome, step}
 use Rattle.machine.specs.Machine.{Machine, machine, meaning}
 use Rattle.machine.specs.Consistent.{unfit}
 use Rattle.promise.specs.declared.Reply.{Reply}
