@@ -21,6 +21,7 @@ use units::word::{lsb, msb};
 use units::{Bytes, Form};
 
 // The words from Overall Length on.
+#[tactic(auto, unfolding(meaning::specs::Command::body_of))]
 fn body_of(words: &[u16], form: Form) -> &[u16]
     ensures { result.now ≡ body_of form words.now }
 {
@@ -31,6 +32,7 @@ fn body_of(words: &[u16], form: Form) -> &[u16]
 }
 
 // What the words say, whether or not they are accepted.
+#[tactic(auto, unfolding(meaning::specs::Command::command_of))]
 fn command_of(body: &[u16]) -> Command
     ensures { result ≡ command_of body.now }
 {
@@ -44,6 +46,7 @@ fn command_of(body: &[u16]) -> Command
 }
 
 // 5, of word 00
+#[tactic(auto, unfolding(meaning::specs::Command::head_wrong))]
 fn head_wrong(words: &[u16], form: Form) -> bool
     ensures { result ≡ head_wrong form words.now }
 {
@@ -68,6 +71,7 @@ fn pad_wrong(body: &[u16]) -> bool
 }
 
 // 6
+#[tactic(auto, unfolding(meaning::specs::Command::head_node_wrong))]
 fn head_node_wrong(words: &[u16], form: Form, body: &[u16]) -> bool
     ensures { result ≡ head_node_wrong form words.now (lsb (word_no 3 body.now)) }
 {
@@ -78,6 +82,7 @@ fn head_node_wrong(words: &[u16], form: Form, body: &[u16]) -> bool
 }
 
 // 4 to 6
+#[tactic(auto, using(meaning::proofs::Chain::doubts), unfolding(meaning::specs::Command::frame_doubts))]
 fn frame_refusal(words: &[u16], form: Form, body: &[u16]) -> u8
     ensures { result ≡ refusal (frame_doubts form words.now body.now) }
 {
@@ -100,6 +105,7 @@ fn frame_refusal(words: &[u16], form: Form, body: &[u16]) -> u8
 }
 
 // 7 and 8
+#[tactic(auto, using(meaning::proofs::Chain::doubts), unfolding(meaning::specs::Command::who_doubts))]
 pub fn who_refusal(row: Row, m: Command) -> u8
     ensures { result ≡ refusal (who_doubts full row m) }
 {
@@ -115,6 +121,7 @@ pub fn who_refusal(row: Row, m: Command) -> u8
 }
 
 // 10, of a word that is used
+#[tactic(auto, unfolding(meaning::specs::Command::outside))]
 fn outside(l: Limits, value: u16) -> bool
     ensures { result ≡ outside l value }
 {
@@ -138,6 +145,7 @@ fn delay_wrong(kind: Kind, m: Command) -> bool
     }
 }
 
+#[tactic(auto, unfolding(meaning::specs::Command::range_wrong))]
 fn past_region(m: Command) -> bool
     ensures { result ≡ range_wrong full.region Continuous m }
 {
@@ -162,6 +170,7 @@ fn range_wrong(kind: Kind, m: Command) -> bool
 }
 
 // 10
+#[tactic(auto, using(meaning::proofs::Chain::doubts), unfolding(meaning::specs::Command::limit_doubts))]
 pub fn limit_refusal(row: Row, m: Command) -> u8
     ensures { result ≡ refusal (limit_doubts full row m) }
 {
@@ -188,6 +197,7 @@ pub fn limit_refusal(row: Row, m: Command) -> u8
 }
 
 // 11, of a word that is not used
+#[tactic(auto, unfolding(meaning::specs::Command::stray))]
 fn stray(l: Limits, value: u16) -> bool
     ensures { result ≡ stray l value }
 {
@@ -195,6 +205,7 @@ fn stray(l: Limits, value: u16) -> bool
 }
 
 // 11, of words 04 to 06
+#[tactic(auto, using(meaning::proofs::Chain::doubts), unfolding(meaning::specs::Command::unused_doubts))]
 pub fn unused_refusal(row: Row, m: Command) -> u8
     ensures { result ≡ refusal (unused_doubts row m) }
 {
@@ -214,6 +225,7 @@ pub fn unused_refusal(row: Row, m: Command) -> u8
 }
 
 // 7 to 11, by the command's row
+#[tactic(auto, using(meaning::proofs::Chain::doubts), unfolding(meaning::specs::Command::row_doubts))]
 fn row_refusal(row: Row, m: Command, body: &[u16]) -> u8
     ensures { result ≡ refusal (row_doubts full row m body.now) }
 {
@@ -240,6 +252,7 @@ fn row_refusal(row: Row, m: Command, body: &[u16]) -> u8
 }
 
 // 4 to 11, of a packet whose body says m, with m's row
+#[tactic(auto, using(meaning::proofs::Chain::doubts))]
 fn packet_refusal(words: &[u16], form: Form, body: &[u16], row: Row, m: Command) -> u8
     ensures { result ≡ refusal (frame_doubts form words.now body.now or_else row_doubts full row m
         body.now) }
@@ -296,6 +309,7 @@ pub fn read_command(words: &[u16], form: Form) -> CommandRead
 }
 
 // The data of a packet, from word 07 on: a part of the caller's own words.
+#[tactic(auto, unfolding(meaning::specs::Command::command_data))]
 pub fn command_data(words: &[u16], form: Form) -> &[u16]
     ensures { result.now ≡ command_data form words.now }
 {
