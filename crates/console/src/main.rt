@@ -10,11 +10,10 @@ ghost use Rattle.dialog.specs.Dialog.{longest_answer};
 
 use conversation::speak;
 use dialogout::LONGEST_ANSWER;
-use libc::{STDERR_FILENO, STDIN_FILENO};
 use lines::LONGEST_LINE;
 use plaques::copy_bytes;
 use state::State;
-use streams::{put, take};
+use streams::{put, say, take, word_count};
 use units::{Bytes, Words};
 
 // A line that goes on is kept up to a byte more than the longest that is looked into, which shows that it is longer.
@@ -31,14 +30,21 @@ struct Answered {
 }
 
 // Plays the lines, and writes their answers before anything else is waited for.
-fn answer(s: State, lines: &[u8], store: &mut [u16], plaques: &mut [u8], out: &mut [u8]) -> Answered
+fn answer(
+    rt: HostRuntime,
+    s: State,
+    lines: &[u8],
+    store: &mut [u16],
+    plaques: &mut [u8],
+    out: &mut [u8],
+) -> Answered
     requires plaques_value { unfit full (machine s store.old plaques.old) ≡ 0 }
     requires longest_answer_in_bounds { length lines.now * longest_answer ≤ length out.old }
     ensures { unfit full (machine result.state store.new plaques.new) ≡ 0 }
 {
     let r = speak(s, lines, store, plaques, out);
     let n = r.at;
-    let written = put(&out[..n]) == n;
+    let written = put(rt, &out[..n]) == n;
     let state = r.state;
     Answered { state, written }
 }
@@ -88,6 +94,7 @@ struct Heard {
 
 // A piece comes behind what is kept; all lines that then have their line feed are played, and the rest is kept.
 fn hear(
+    rt: HostRuntime,
     s: State,
     input: &mut [u8],
     kept: usize,
@@ -103,7 +110,7 @@ fn hear(
     copy_bytes(piece, input, kept);
     let n = kept + piece.len();
     let whole = whole_lines(&input[..n]);
-    let a = answer(s, &input[..whole], store, plaques, out);
+    let a = answer(rt, s, &input[..whole], store, plaques, out);
     let left = keep(input, whole, n);
     let state = a.state;
     Heard {
@@ -114,7 +121,7 @@ fn hear(
 }
 
 // The lines as they come, into an output that has room for the answers to all of them.
-fn play_into(out: &mut [u8])
+fn play_into(rt: HostRuntime, out: &mut [u8])
     requires { 6449 * longest_answer ≤ length out.old }
 {
     let mut store = [0u16; Words::STORE.0 as usize];
@@ -126,9 +133,8 @@ fn play_into(out: &mut [u8])
     // It ends with the input. (So many pieces no bench will see; the count shows the prover that it ends.)
     let mut pieces: u64 = 0;
     while pieces < u64::MAX {
-        let got = take(STDIN_FILENO, &mut piece);
+        let got = take(rt, b"standard input", &mut rt.stdin(), &mut piece);
         if !got.ok {
-            os::fail(b"standard input");
             return;
         }
         let n = got.n;
@@ -136,6 +142,7 @@ fn play_into(out: &mut [u8])
             break;
         }
         let h = hear(
+            rt,
             s,
             &mut input,
             kept,
@@ -152,23 +159,23 @@ fn play_into(out: &mut [u8])
         pieces += 1;
     }
     if 0 < kept {
-        answer(s, &input[..kept], &mut store, &mut plaques, out);
+        answer(rt, s, &input[..kept], &mut store, &mut plaques, out);
     }
 }
 
 // No line of what is looked at in one go has a longer answer, and a line has a byte at least.
-fn play() {
+fn play(rt: HostRuntime) {
     let mut out = [0u8; LONGEST_ANSWER * (KEPT + PIECE)];
-    play_into(&mut out);
+    play_into(rt, &mut out);
 }
 
-fn main() {
-    if 1 < os::arg_count() {
-        io::write_all(
-            STDERR_FILENO,
+fn main(rt: HostRuntime) {
+    if 1 < word_count(rt) {
+        say(
+            rt,
             b"usage: console (no arguments): calls come as lines on standard input, see docs/CONSOLE.md\n",
         );
         return;
     }
-    play();
+    play(rt);
 }

@@ -13,6 +13,7 @@ use commands::say_of_command;
 use responses::say_of_response;
 use say::say;
 use scan::{after, part, starts, words_of};
+use streams::{fill, put};
 use units::Form;
 
 fn form_at(line: &[u8], at: usize) -> Form {
@@ -47,7 +48,7 @@ fn say_line(out: &mut [u8], line: &[u8]) -> usize {
     )
 }
 
-fn play_line(line: &[u8]) {
+fn play_line(rt: HostRuntime, line: &[u8]) {
     if starts(line, 0, b'#') {
         return;
     }
@@ -56,20 +57,20 @@ fn play_line(line: &[u8]) {
     }
     let mut out = [0u8; 1024];
     let n = say_line(&mut out, line);
-    io::write_all(1, part(&out, 0, n));
+    put(rt, part(&out, 0, n));
 }
 
-fn play(file: &[u8]) {
+fn play(rt: HostRuntime, file: &[u8]) {
     let mut at = 0;
     while at < file.len() {
         let next = after(file, at, b'\n');
-        play_line(part(file, at, next));
+        play_line(rt, part(file, at, next));
         at = next;
     }
 }
 
-fn main() {
-    let mut file = io::large_buffer();
-    let n = io::read_full(0, &mut file);
-    play(&file[..n]);
+fn main(rt: HostRuntime) {
+    let mut file = [0u8; 65536];
+    let n = fill(rt, b"standard input", &mut rt.stdin(), &mut file);
+    play(rt, &file[..n]);
 }

@@ -5,23 +5,31 @@
 
 ghost use Rattle.std.specs.Prelude.{◌<◌, ◌≤◌, length};
 
-use libc::{STDERR_FILENO, STDIN_FILENO};
 use nightrun::{LONGEST_LISTING, Listed, list};
 use plaques::copy_bytes;
-use streams::{Got, put, take};
+use std::env::Env;
+use std::fs::File;
+use std::io::{self, ErrorKind, Read};
+use streams::{Got, fail, put, say, take, word_count};
+
+// The longest word that is taken from the command line: it holds any path.
+const LONGEST_WORD: usize = 4096;
+
+// The system's number for a name that is too long.
+const ENAMETOOLONG: i32 = 36;
 
 // The results from here on say whether the listing could be written.
-fn write_into(file: &[u8], out: &mut [u8]) -> bool {
+fn write_into(rt: HostRuntime, file: &[u8], out: &mut [u8]) -> bool {
     let Listed::Written(n) = list(file, out) else {
         return false;
     };
-    put(&out[..n]) == n
+    put(rt, &out[..n]) == n
 }
 
 // With room for every listing. (In a function of its own: no proof then looks at each of so many bytes.)
-fn write_listing(file: &[u8]) -> bool {
+fn write_listing(rt: HostRuntime, file: &[u8]) -> bool {
     let mut out = [0u8; LONGEST_LISTING];
-    write_into(file, &mut out)
+    write_into(rt, file, &mut out)
 }
 
 // Adds bytes behind the first n of a file, as many as there is room for; the result is how many it then has.
@@ -39,13 +47,13 @@ fn add(file: &mut [u8], n: usize, bytes: &[u8]) -> usize
 }
 
 // Reads a file's bytes, as many as there is room for.
-fn read_file(fd: i32, file: &mut [u8]) -> Got
+fn read_file<R: Read>(rt: HostRuntime, name: &[u8], from: &mut R, file: &mut [u8]) -> Got
     ensures { result.n ≤ length file.new }
 {
-    let mut chunk = io::buffer();
+    let mut chunk = [0u8; 4096];
     let mut n = 0;
     while n < file.len() {
-        let got = take(fd, &mut chunk);
+        let got = take(rt, name, from, &mut chunk);
         let more = got.n;
         if more == 0 {
             return Got { n, ok: got.ok };
@@ -56,30 +64,40 @@ fn read_file(fd: i32, file: &mut [u8]) -> Got
 }
 
 // A byte more than a run file may have shows that it is too long.
-fn play(fd: i32, name: &[u8]) -> bool {
+fn play<R: Read>(rt: HostRuntime, name: &[u8], from: &mut R) -> bool {
     let mut file = [0u8; 65537];
-    let got = read_file(fd, &mut file);
+    let got = read_file(rt, name, from, &mut file);
     if !got.ok {
-        os::fail(name);
         return true;
     }
     let n = got.n;
-    write_listing(&file[..n])
+    write_listing(rt, &file[..n])
 }
 
-fn play_file(name: &[u8]) -> bool {
-    let fd = os::open_read(name);
-    if fd < 0 {
-        if name.len() == 0 {
-            os::fail(b"empty file name");
-        } else {
-            os::fail(name);
-        }
-        return true;
+fn play_input(rt: HostRuntime) -> bool {
+    play(rt, b"standard input", &mut rt.stdin())
+}
+
+// A name is text: a file with another one is played by `night - < FILE`.
+fn open(rt: HostRuntime, name: &[u8]) -> io::Result<File> {
+    match str::from_utf8(name) {
+        Ok(path) => File::open(&rt, path),
+        Err(_) => Err(io::Error::from(ErrorKind::InvalidFilename)),
     }
-    let written = play(fd, name);
-    libc::close(fd);
-    written
+}
+
+fn play_file(rt: HostRuntime, name: &[u8]) -> bool {
+    match open(rt, name) {
+        Ok(mut file) => play(rt, name, &mut file),
+        Err(error) => {
+            if name.len() == 0 {
+                fail(rt, b"empty file name", error);
+            } else {
+                fail(rt, name, error);
+            }
+            true
+        }
+    }
 }
 
 // Whether an argument asks for help: -h, --help, or what begins so.
@@ -94,50 +112,52 @@ fn is_help(word: &[u8]) -> bool {
 }
 
 // No file is played after an option.
-fn explain(option: &[u8]) {
+fn explain(rt: HostRuntime, option: &[u8]) {
     if is_help(option) {
-        put(b"usage: night [FILE..]\n");
+        put(rt, b"usage: night [FILE..]\n");
         put(
+            rt,
             b"Plays run files and writes their listings. No FILE, or -: standard input. See docs/NIGHT.md\n",
         );
         return;
     }
-    io::write_all(STDERR_FILENO, b"night: no such option: ");
-    io::write_all(STDERR_FILENO, option);
-    io::write_all(STDERR_FILENO, b" (a file of that name is ./");
-    io::write_all(STDERR_FILENO, option);
-    io::write_all(STDERR_FILENO, b")\n");
+    say(rt, b"night: no such option: ");
+    say(rt, option);
+    say(rt, b" (a file of that name is ./");
+    say(rt, option);
+    say(rt, b")\n");
 }
 
-fn play_word(word: &[u8]) -> bool {
+fn play_word(rt: HostRuntime, word: &[u8]) -> bool {
     if word.len() == 0 || word[0] != b'-' {
-        return play_file(word);
+        return play_file(rt, word);
     }
     if word.len() == 1 {
-        return play(STDIN_FILENO, b"standard input");
+        return play_input(rt);
     }
-    explain(word);
+    explain(rt, word);
     false
 }
 
-fn play_argument(i: usize) -> bool {
-    let mut word = io::buffer();
-    let length = os::arg(i, &mut word);
-    if os::errno() != 0 {
-        os::fail(b"file name");
-        return true;
+fn play_argument(rt: HostRuntime, i: usize) -> bool {
+    let mut word = [0u8; LONGEST_WORD];
+    match rt.arg(i, &mut word) {
+        Ok(length) => play_word(rt, &word[..length]),
+        Err(_) => {
+            fail(rt, b"file name", io::Error::from_raw_os_error(ENAMETOOLONG));
+            true
+        }
     }
-    play_word(&word[..length])
 }
 
-fn main() {
-    let words = os::arg_count();
+fn main(rt: HostRuntime) {
+    let words = word_count(rt);
     if words < 2 {
-        play(STDIN_FILENO, b"standard input");
+        play_input(rt);
         return;
     }
     let mut i = 1;
-    while i < words && play_argument(i) {
+    while i < words && play_argument(rt, i) {
         i += 1;
     }
 }

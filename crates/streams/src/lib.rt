@@ -2,53 +2,97 @@
 // terminal that another program left non-blocking answers EAGAIN in place of waiting. None of these loses a byte here.
 #![tactic(auto)]
 
-ghost use Rattle.std.specs.Prelude.{length, ◌≤◌};
+ghost use Rattle.std.specs.Prelude.{◌≡◌, ◌<◌, ◌≤◌, true, length, take as first};
+ghost use Rattle.std.specs.Io.KnownBytes.{Appends, Consumes, IsAtEnd};
 
-use libc::STDOUT_FILENO;
+use std::env::{Env, FillError};
+use std::io::{self, ErrorKind, Read, Write};
+use std::thread;
 
 // How often a call that moved nothing is made again. (No night lasts as long; the count shows the prover that it ends.)
 const PATIENCE: u64 = u64::MAX;
 
-// Whether a call that answered less than 1 is to be made again. errno stays as the call left it. Where a descriptor does not wait, this
-// lets others run and tries again: it costs processor time while the other side is slow, and no byte. (The libraries have no poll, and
-// nanosleep takes a struct by reference, which would have to be walked by hand.)
-fn again(got: isize) -> bool {
-    if got == 0 {
-        return false;
-    }
-    let error = os::errno();
-    if error == libc::EINTR {
-        return true;
-    }
-    if error != libc::EAGAIN {
-        return false;
-    }
-    libc::sched_yield();
-    true
+// Writes the bytes to standard error. Where that fails, there is nowhere to say so.
+pub fn say(rt: HostRuntime, bytes: &[u8]) {
+    let _ = rt.stderr().write_all(bytes);
 }
 
-// Writes the bytes to standard output, and says on standard error why where it cannot write them all; how many it wrote.
-pub fn put(bytes: &[u8]) -> usize
-    ensures { result ≤ length bytes.now }
+// How much of an error's text is the system's, without the number that is added in brackets.
+fn reason(text: &[u8], error: io::Error) -> usize
+    ensures { result ≤ length text.now }
+{
+    if error.raw_os_error().is_none() {
+        return text.len();
+    }
+    let mut n = text.len();
+    while 1 < n {
+        if text[n - 1] == b'(' {
+            return n - 2;
+        }
+        n -= 1;
+    }
+    text.len()
+}
+
+// Says on standard error what failed, and why.
+pub fn fail(rt: HostRuntime, what: &[u8], error: io::Error) {
+    let mut text = [0u8; 256];
+    let mut rest = &mut text[..];
+    let _ = write!(rest, "{error}");
+    let left = rest.len();
+    let n = text.len().saturating_sub(left);
+    say(rt, what);
+    say(rt, b": ");
+    say(rt, &text[..reason(&text[..n], error)]);
+    say(rt, b"\n");
+}
+
+// Whether a call that failed is to be made again. Where a descriptor does not wait, this lets others run and tries again: it costs
+// processor time while the other side is slow, and no byte.
+fn again(error: io::Error) -> bool {
+    match error.kind() {
+        ErrorKind::Interrupted => true,
+        ErrorKind::WouldBlock => {
+            thread::yield_now();
+            true
+        }
+        _ => false,
+    }
+}
+
+// Writes the bytes, and says on standard error, by the name of what is written to, why where it cannot write them all; how many it wrote.
+pub fn put_all<W: Write>(rt: HostRuntime, name: &[u8], to: &mut W, bytes: &[u8]) -> usize
+    ensures bound { result ≤ length bytes.now }
+    ensures written { Appends (W.contents to.old) (W.contents to.new) (first result bytes.now) }
 {
     let mut at = 0;
     let mut tries = PATIENCE;
-    while at < bytes.len() && 0 < tries {
-        let got = libc::write(STDOUT_FILENO, &bytes[at..]);
-        let n = io::count(got, &bytes[at..]);
-        if 0 < n {
-            at += n;
-            continue;
+    while at < bytes.len() {
+        match to.write(&bytes[at..]) {
+            Ok(0) => {
+                fail(rt, name, io::Error::from(ErrorKind::WriteZero));
+                return at;
+            }
+            Ok(n) => {
+                at += n;
+            }
+            Err(error) => {
+                if tries == 0 || !again(error) {
+                    fail(rt, name, error);
+                    return at;
+                }
+                tries -= 1;
+            }
         }
-        if !again(got) {
-            break;
-        }
-        tries -= 1;
-    }
-    if at < bytes.len() {
-        os::fail(b"standard output");
     }
     at
+}
+
+// Writes the bytes to standard output, and says on standard error why where it cannot write them all; how many it wrote.
+pub fn put(rt: HostRuntime, bytes: &[u8]) -> usize
+    ensures { result ≤ length bytes.now }
+{
+    put_all(rt, b"standard output", &mut rt.stdout(), bytes)
 }
 
 // How many bytes were read, and whether any could be.
@@ -58,21 +102,52 @@ pub struct Got {
     pub ok: bool,
 }
 
-// Reads some bytes to the front of what is lent, none at the end of the input. It waits where there is nothing yet.
-pub fn take(fd: i32, bytes: &mut [u8]) -> Got
-    ensures { result.n ≤ length bytes.new }
+// Reads some bytes to the front of what is lent, none at the end of the input. It waits where there is nothing yet, and says on standard
+// error, by the name of what is read, why where it cannot read.
+pub fn take<R: Read>(rt: HostRuntime, name: &[u8], from: &mut R, bytes: &mut [u8]) -> Got
+    ensures bound { result.n ≤ length bytes.new }
+    ensures read { Consumes (R.remaining from.old) (R.remaining from.new) (first result.n bytes.new) }
+    ensures end { result.ok ≡ true → result.n ≡ 0 → 0 < length bytes.new → IsAtEnd (R.remaining from.new) }
 {
     let mut tries = PATIENCE;
-    while 0 < tries {
-        let got = libc::read(fd, bytes);
-        if 0 <= got {
-            let n = io::count(got, bytes);
-            return Got { n, ok: true };
+    loop {
+        match from.read(bytes) {
+            Ok(n) => return Got { n, ok: true },
+            Err(error) => {
+                if tries == 0 || !again(error) {
+                    fail(rt, name, error);
+                    return Got { n: 0, ok: false };
+                }
+                tries -= 1;
+            }
         }
-        if !again(got) {
-            break;
-        }
-        tries -= 1;
     }
-    Got { n: 0, ok: false }
+}
+
+// Reads to the front of what is lent until that is full, the input ends or it cannot be read, which is then said; how many bytes.
+pub fn fill<R: Read>(rt: HostRuntime, name: &[u8], from: &mut R, bytes: &mut [u8]) -> usize
+    ensures bound { result ≤ length bytes.new }
+    ensures read { Consumes (R.remaining from.old) (R.remaining from.new) (first result bytes.new) }
+{
+    let mut at = 0;
+    while at < bytes.len() {
+        let got = take(rt, name, from, &mut bytes[at..]);
+        if got.n == 0 {
+            return at;
+        }
+        at += got.n;
+    }
+    at
+}
+
+// How many words the program was started with, its own name among them.
+pub fn word_count(rt: HostRuntime) -> usize {
+    let mut n = 0;
+    while n < usize::MAX {
+        if let Err(FillError::NotPresent) = rt.arg(n, &mut []) {
+            return n;
+        }
+        n += 1;
+    }
+    n
 }

@@ -6,18 +6,19 @@ use dialogout::{LONGEST_ANSWER, put_handed};
 use gateway::{acknowledge, arrive, collect, command};
 use promise::Handout;
 use state::State;
+use streams::put;
 use units::stamp::Stamp;
 use units::{Bytes, Form, Words};
 use wordsout::put_words;
 
-fn say(words: &[u16]) {
+fn say(rt: HostRuntime, words: &[u16]) {
     if 135 < words.len() {
         return;
     }
     let mut line = [0u8; 675];
     let n = put_words(&mut line, 0, words);
     if n <= 675 {
-        io::write_all(1, &line[..n]);
+        put(rt, &line[..n]);
     }
 }
 
@@ -33,7 +34,14 @@ fn at() -> Stamp {
 }
 
 // Plays a packet and hands its answer over.
-fn ask(s: State, node: u8, packet: &[u16], store: &mut [u16], plaques: &mut [u8]) -> State {
+fn ask(
+    rt: HostRuntime,
+    s: State,
+    node: u8,
+    packet: &[u16],
+    store: &mut [u16],
+    plaques: &mut [u8],
+) -> State {
     let called = command(s, at(), Form::Register, packet, store, plaques);
     let u = called.state;
     let mut out = [0u16; 135];
@@ -42,27 +50,27 @@ fn ask(s: State, node: u8, packet: &[u16], store: &mut [u16], plaques: &mut [u8]
         Handout::Handed(words, number) => {
             let n = words.0 as usize;
             if n <= 135 {
-                say(&out[..n]);
+                say(rt, &out[..n]);
             }
             acknowledge(u, node, number, store, plaques).state
         }
     }
 }
 
-fn visit(s: State, node: u8, store: &mut [u16], plaques: &mut [u8]) -> State {
+fn visit(rt: HostRuntime, s: State, node: u8, store: &mut [u16], plaques: &mut [u8]) -> State {
     let id = [0xE0u8, 0x04, 0x01, 0x00, 0x00, 0x2E, 0x16, 0xAD];
     let bytes = [node, 0x22, 0x33, 0x44];
     let called = arrive(s, node, &id, &bytes, store, plaques);
     let t = called.state;
     let packet = [0x0006u16, 0xAA05, node as u16, 0x07D0, 0x0000, 0x0003];
-    ask(t, node, &packet, store, plaques)
+    ask(rt, t, node, &packet, store, plaques)
 }
 
-fn visit_readers(s: State, store: &mut [u16], plaques: &mut [u8]) -> State {
+fn visit_readers(rt: HostRuntime, s: State, store: &mut [u16], plaques: &mut [u8]) -> State {
     let mut t = s;
     let mut node: u8 = 1;
     while node <= 16 {
-        t = visit(t, node, store, plaques);
+        t = visit(rt, t, node, store, plaques);
         node += 1;
     }
     t
@@ -75,7 +83,7 @@ fn clear(s: State, store: &mut [u16], plaques: &mut [u8]) -> State {
 }
 
 // The gateway's oldest answer with its handover number, as the console says it.
-fn show(s: State, store: &[u16], plaques: &[u8]) {
+fn show(rt: HostRuntime, s: State, store: &[u16], plaques: &[u8]) {
     let mut out = [0u16; 134];
     let Handout::Handed(words, number) = collect(s, Form::Register, 32, store, plaques, &mut out)
     else {
@@ -91,29 +99,29 @@ fn show(s: State, store: &[u16], plaques: &[u8]) {
     let mut line = [0u8; LONGEST_ANSWER];
     let end = put_handed(&mut line, 0, number, Form::Framed, 32, &out[..n]);
     if end <= LONGEST_ANSWER {
-        io::write_all(1, &line[..end]);
+        put(rt, &line[..end]);
     }
 }
 
 // The last handover number, and the one that follows it.
-fn go_around(store: &mut [u16], plaques: &mut [u8]) {
+fn go_around(rt: HostRuntime, store: &mut [u16], plaques: &mut [u8]) {
     let mut s = state::fresh(store);
     let mut k: u32 = 0;
     while k < 65535 {
         s = clear(s, store, plaques);
         k += 1;
     }
-    show(s, store, plaques);
+    show(rt, s, store, plaques);
     s = clear(s, store, plaques);
-    show(s, store, plaques);
+    show(rt, s, store, plaques);
 }
 
-fn main() {
+fn main(rt: HostRuntime) {
     let mut store = [0u16; Words::STORE.0 as usize];
     let mut plaques = [0u8; Bytes::PLAQUES.0 as usize];
     let fresh = state::fresh(&mut store);
-    let s = visit_readers(fresh, &mut store, &mut plaques);
+    let s = visit_readers(rt, fresh, &mut store, &mut plaques);
     let packet = [0x0006u16, 0xAA11, 0x0020, 0x0000, 0x0000, 0x0000];
-    ask(s, 32, &packet, &mut store, &mut plaques);
-    go_around(&mut store, &mut plaques);
+    ask(rt, s, 32, &packet, &mut store, &mut plaques);
+    go_around(rt, &mut store, &mut plaques);
 }
