@@ -1,7 +1,6 @@
 -- From where the loop stands the field ends where it ends from its start: no blank stands between.
 -- Assumes nothing.
-use Rattle.units.proofs.Common.{ℕ, ◌≤◌, arith}
-use Rattle.fields.specs.FieldsAt.{FieldAt}
+use Rattle.units.proofs.Common.{arith}
 use Rattle.fields.proofs.Places.{at_other}
 use Rattle.fields.proofs.field_end.Goals as goal
 

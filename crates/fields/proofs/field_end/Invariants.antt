@@ -1,8 +1,7 @@
 -- From where the loop stands the field ends where it ends from its start: no blank stands between.
 -- Assumes nothing.
-use Rattle.units.proofs.Common.{ℕ, ◌≤◌, ◌-◌, arith, length}
+use Rattle.units.proofs.Common.{ℕ, ◌≤◌, ◌-◌, length}
 use Rattle.fields.specs.FieldsAt.{FieldAt}
-use Rattle.fields.proofs.Places.{at_other}
 use Rattle.fields.proofs.field_end.Given as goal
 
 abbrev pub invariant-loop-end : goal.invariant-loop-end

@@ -1,6 +1,6 @@
 -- The two tests are those of the definition, in its order.
 -- Assumes nothing.
-use Rattle.units.proofs.Common.{sym, ◌∙◌, rules, yes_cond, no_cond, yes_or, no_or}
+use Rattle.units.proofs.Common.{sym, ◌∙◌, yes_cond, no_cond, yes_or, no_or}
 use Rattle.units.specs.declared.Form.TheVariants.{Register, Framed}
 use Rattle.fields.proofs.form_of.Goals as goal
 

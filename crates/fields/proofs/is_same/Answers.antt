@@ -1,7 +1,6 @@
 -- What is left of the two is the same just where the two are.
 -- Assumes nothing.
-use Rattle.units.proofs.Common.{sym, ◌∙◌, ◌≡◌, refl, ◌≤◌, ◌-◌, arith, length, drop, eq-eqb, ne_eqb, yes_and, no_and}
-use Rattle.meaning.proofs.Terms.{same}
+use Rattle.units.proofs.Common.{sym, ◌∙◌, refl, arith, eq-eqb, ne_eqb, yes_and, no_and}
 use Rattle.dialog.proofs.FieldLaws.{nowise, same_length, same_next, same_end}
 use Rattle.fields.proofs.is_same.Goals as goal
 
