@@ -1,6 +1,5 @@
 -- A number of at most 255 is itself modulo 256.
 -- Assumes nothing.
-use Rattle.units.proofs.Common.{arith}
 use Rattle.numbers.proofs.Numbers.{node_at_lem}
 use Rattle.numbers.proofs.read_node.Goals as goal
 

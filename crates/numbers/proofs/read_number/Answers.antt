@@ -1,7 +1,7 @@
 -- The digits so far and what is left are the field; it is judged where it ends, or at the first byte with which it is no number.
 -- Assumes nothing.
-use Rattle.units.proofs.Common.{sym, ◌∙◌, ◌-◌, arith, length, not-false, not-true, true, false}
-use Rattle.numbers.proofs.Numbers.{SoFar, so_none, so_more, fits, bad_at, limit, end_at, past_at}
+use Rattle.units.proofs.Common.{sym, ◌∙◌, arith, true, false}
+use Rattle.numbers.proofs.Numbers.{so_none, so_more, fits, bad_at, limit, end_at, past_at}
 use Rattle.numbers.proofs.read_number.Goals as goal
 
 pub returns-then-line-at : goal.returns-then-line-at

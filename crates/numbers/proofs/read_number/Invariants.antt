@@ -1,7 +1,7 @@
 -- The digits so far and what is left are the field; it is judged where it ends, or at the first byte with which it is no number.
 -- Assumes nothing.
-use Rattle.units.proofs.Common.{sym, ◌∙◌, ◌-◌, arith, length, not-false, not-true, true, false}
-use Rattle.numbers.proofs.Numbers.{SoFar, so_none, so_more, fits, bad_at, limit, end_at, past_at}
+use Rattle.units.proofs.Common.{◌-◌, length}
+use Rattle.numbers.proofs.Numbers.{SoFar}
 use Rattle.numbers.proofs.read_number.Given as goal
 
 abbrev pub invariant-loop-c : goal.invariant-loop-c

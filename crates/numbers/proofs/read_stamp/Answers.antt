@@ -1,6 +1,5 @@
 -- Five nodes, one after another.
 -- Assumes nothing.
-use Rattle.units.proofs.Common.{rules}
 use Rattle.numbers.proofs.Numbers.{stamp_at_lem}
 use Rattle.numbers.proofs.read_stamp.Goals as goal
 
