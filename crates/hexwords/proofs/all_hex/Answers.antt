@@ -1,6 +1,6 @@
 -- What was seen and what is left are all digits just where the whole is.
 -- Assumes nothing.
-use Rattle.units.proofs.Common.{sym, ◌∙◌, ◌≡◌, refl, ap, true, false, Bool, ◌&&◌, ◌≤◌, ◌-◌, ◌+◌, arith, length, drop, get_or, every}
+use Rattle.units.proofs.Common.{sym, ◌∙◌, ◌≡◌, refl, ap, true, false, Bool, ◌&&◌, ◌+◌, arith, drop, get_or, every}
 use Rattle.dialog.specs.Fields.{is_hex}
 use Rattle.dialog.proofs.FieldLaws.{and_end, every_next, every_end}
 use Rattle.hexwords.proofs.all_hex.Goals as goal

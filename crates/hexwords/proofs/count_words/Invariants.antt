@@ -1,12 +1,8 @@
 -- What is left is all words just where the whole is; the words so far and those that are left are all of them.
 -- Assumes nothing.
-use Rattle.units.proofs.Common.{sym, ◌∙◌, ◌≡◌, refl, ap, ◌≤◌, ◌-◌, ◌+◌, arith, length, not-false, not-true, every, yes_and}
-use Rattle.fields.proofs.Places.{from_past}
-use Rattle.hexwords.proofs.Words.{no_words, all_words}
-use Rattle.hexwords.proofs.Words.{word_at, first_word}
+use Rattle.units.proofs.Common.{◌≡◌, ◌≤◌, ◌-◌, ◌+◌, length, every}
 use Rattle.fields.specs.FieldsAt.{fields_from}
 use Rattle.dialog.specs.Fields.{word_ok}
-use Rattle.dialog.proofs.FieldLaws.{nowise, clash, every_cons, every_none}
 use Rattle.hexwords.proofs.count_words.Given as goal
 
 abbrev pub invariant-loop-from : goal.invariant-loop-from

@@ -1,6 +1,6 @@
 -- A digit is of one of three kinds, and in each the sum is its value.
 -- Assumes nothing.
-use Rattle.units.proofs.Common.{sym, ◌∙◌, ◌≡◌, ⊎_elim, true, ℕ, ◌+◌, ◌<◌, ◌*◌, ◌%◌, ◌/◌, arith, rules}
+use Rattle.units.proofs.Common.{sym, ◌∙◌, ◌≡◌, ⊎_elim, true, ℕ, ◌+◌, ◌<◌, ◌*◌, ◌%◌, ◌/◌, arith}
 use Rattle.dialog.specs.Fields.{is_hex, hex_digit}
 use Rattle.dialog.proofs.HexLaws.{hex_cases, digit_low, digit_upper, digit_lower}
 use Rattle.hexwords.proofs.digit_of.Goals as goal

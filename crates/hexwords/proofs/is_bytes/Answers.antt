@@ -1,6 +1,6 @@
 -- The tests are those of the definition, in its order; half of an even length against the limit, so that nothing is doubled.
 -- Assumes nothing.
-use Rattle.units.proofs.Common.{sym, ◌∙◌, arith, rules}
+use Rattle.units.proofs.Common.{sym, ◌∙◌, arith}
 use Rattle.dialog.proofs.FieldLaws.{nowise}
 use Rattle.dialog.proofs.HexLaws.{of_bytes, bytes_if, bytes_dash}
 use Rattle.hexwords.proofs.is_bytes.Goals as goal

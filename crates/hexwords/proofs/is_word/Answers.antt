@@ -1,6 +1,6 @@
 -- A word has four bytes and ends there; four bytes behind which the field goes on no more are one just where all are digits.
 -- Assumes nothing.
-use Rattle.units.proofs.Common.{sym, arith, rules}
+use Rattle.units.proofs.Common.{sym, arith}
 use Rattle.dialog.proofs.FieldLaws.{nowise}
 use Rattle.hexwords.proofs.Words.{word_at, is_word}
 use Rattle.hexwords.proofs.is_word.Goals as goal

@@ -1,6 +1,6 @@
 -- As in `put_words`, two digits a turn.
 -- Assumes nothing.
-use Rattle.units.proofs.Common.{sym, ◌∙◌, ◌≡◌, refl, ap, ◌≤◌, ◌-◌, ◌+◌, ◌*◌, add-one, arith, length, drop, length-set, sets}
+use Rattle.units.proofs.Common.{sym, ◌∙◌, refl, ap, ◌+◌, add-one, arith, drop, length-set, sets}
 use Rattle.dialog.specs.Fields.{is_hex, pairs}
 use Rattle.dialog.proofs.FieldLaws.{every_is}
 use Rattle.units.proofs.PackingLaws.{sets_past}

@@ -1,10 +1,7 @@
 -- As in `put_words`, two digits a turn.
 -- Assumes nothing.
-use Rattle.units.proofs.Common.{sym, ◌∙◌, ◌≡◌, refl, ap, ◌≤◌, ◌-◌, ◌+◌, ◌*◌, add-one, arith, length, drop, length-set, sets}
-use Rattle.dialog.specs.Fields.{is_hex, pairs}
-use Rattle.dialog.proofs.FieldLaws.{every_is}
-use Rattle.units.proofs.PackingLaws.{sets_past}
-use Rattle.dialog.proofs.HexLaws.{pairs_next, pairs_end}
+use Rattle.units.proofs.Common.{◌≡◌, ◌≤◌, ◌-◌, ◌*◌, length, drop, sets}
+use Rattle.dialog.specs.Fields.{pairs}
 use Rattle.hexwords.proofs.put_pairs.Given as goal
 
 abbrev pub invariant-loop-i : goal.invariant-loop-i

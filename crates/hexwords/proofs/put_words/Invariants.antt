@@ -1,13 +1,9 @@
 -- What is left, stored from where the loop stands, gives what the whole gives, stored from the front.
 -- Assumes nothing.
-use Rattle.units.proofs.Common.{sym, ◌∙◌, ◌≡◌, refl, ap, true, List, map, ℕ, ◌≤◌, ◌-◌, add-one, arith, length, length-set, sets, every}
-use Rattle.dialog.proofs.FieldLaws.{every_split}
-use Rattle.fields.proofs.Places.{from_past}
-use Rattle.hexwords.proofs.Words.{word_at, first_word}
+use Rattle.units.proofs.Common.{◌≡◌, true, ◌≤◌, ◌-◌, length, sets, every}
 use Rattle.fields.specs.FieldsAt.{fields_from}
 use Rattle.hexwords.specs.WordsAt.{words_from}
-use Rattle.dialog.specs.Fields.{word_ok, word_of}
-use Rattle.units.proofs.PackingLaws.{sets_past}
+use Rattle.dialog.specs.Fields.{word_ok}
 use Rattle.hexwords.proofs.put_words.Given as goal
 
 abbrev pub invariant-loop-i : goal.invariant-loop-i

@@ -1,6 +1,6 @@
 -- A word has four bytes, all digits; two bytes of two digits each are the number that four digits make.
 -- Assumes nothing.
-use Rattle.units.proofs.Common.{sym, ◌∙◌, arith, rules}
+use Rattle.units.proofs.Common.{sym, ◌∙◌, arith}
 use Rattle.hexwords.proofs.Words.{digit, word_value}
 use Rattle.hexwords.proofs.word_of.Goals as goal
 
