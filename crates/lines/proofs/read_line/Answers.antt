@@ -1,9 +1,9 @@
 -- Each arm reads the fields after the first as the call that the first names; the buffers of the other calls are as they were.
 -- Assumes nothing.
-use Rattle.units.proofs.Common.{sym, ◌≡◌, refl, true, List, ℕ, ◌+◌, arith, take, length-take-le}
+use Rattle.units.proofs.Common.{sym, ◌≡◌, refl, true, ◌+◌, arith, length-take-le}
 use Rattle.dialog.specs.Spoken.{passed, unreadable, spoken}
 use Rattle.dialog.proofs.SpokenLaws.{too_long, empty, comment}
-use Rattle.fields.specs.FieldsAt.{fields_from, verb_of}
+use Rattle.fields.specs.FieldsAt.{fields_from}
 use Rattle.fields.specs.declared.Verb.{Verb}
 use Rattle.lines.specs.declared.Heard.{Heard}
 use Rattle.lines.specs.Heard.{heard_of, words_in, id_in, bytes_in}
@@ -41,43 +41,43 @@ slice_bounds-verb_of-end c = sym (length-take-le _ _ c.field_end-end.ensures.mos
 
 pub returns-in-Command : goal.returns-in-Command
 returns-in-Command c =
-    let r = command_read c.args.words.now c.args.id.now c.args.bytes.now _ (fields_from c.args.line.now (c.field_end-end.result + 1)) _ 
+    let r = command_read c.args.words.now c.args.id.now c.args.bytes.now _ (fields_from c.args.line.now (c.field_end-end.result + 1)) _
     (said (goal.at.returns-in-Command c).After-verb_of Verb.Command c.in-Command.is) (c.read_command.ensures.value, c.read_command.ensures.words_after) in
     record { value = r.0; words_after = r.1.0; id_after = r.1.1.0; bytes_after = r.1.1.1 }
 
 pub returns-in-Check : goal.returns-in-Check
 returns-in-Check c =
-    let r = check_read c.args.words.now c.args.id.now c.args.bytes.now _ (fields_from c.args.line.now (c.field_end-end.result + 1)) 
+    let r = check_read c.args.words.now c.args.id.now c.args.bytes.now _ (fields_from c.args.line.now (c.field_end-end.result + 1))
     (said (goal.at.returns-in-Check c).After-verb_of Verb.Check c.in-Check.is) c.read_check.ensures in
     record { value = r.0; words_after = r.1.0; id_after = r.1.1.0; bytes_after = r.1.1.1 }
 
 pub returns-in-Arrive : goal.returns-in-Arrive
 returns-in-Arrive c =
-    let r = arrive_read c.args.words.now c.args.id.now c.args.bytes.now _ (fields_from c.args.line.now (c.field_end-end.result + 1)) _ _ 
+    let r = arrive_read c.args.words.now c.args.id.now c.args.bytes.now _ (fields_from c.args.line.now (c.field_end-end.result + 1)) _ _
     (said (goal.at.returns-in-Arrive c).After-verb_of Verb.Arrive c.in-Arrive.is) (c.read_arrive.ensures.value, (c.read_arrive.ensures.id_after, c.read_arrive.ensures.bytes_after)) in
     record { value = r.0; words_after = r.1.0; id_after = r.1.1.0; bytes_after = r.1.1.1 }
 
 pub returns-in-Leave : goal.returns-in-Leave
 returns-in-Leave c =
-    let r = leave_read c.args.words.now c.args.id.now c.args.bytes.now _ (fields_from c.args.line.now (c.field_end-end.result + 1)) 
+    let r = leave_read c.args.words.now c.args.id.now c.args.bytes.now _ (fields_from c.args.line.now (c.field_end-end.result + 1))
     (said (goal.at.returns-in-Leave c).After-verb_of Verb.Leave c.in-Leave.is) c.read_leave.ensures in
     record { value = r.0; words_after = r.1.0; id_after = r.1.1.0; bytes_after = r.1.1.1 }
 
 pub returns-in-Collect : goal.returns-in-Collect
 returns-in-Collect c =
-    let r = collect_read c.args.words.now c.args.id.now c.args.bytes.now _ (fields_from c.args.line.now (c.field_end-end.result + 1)) 
+    let r = collect_read c.args.words.now c.args.id.now c.args.bytes.now _ (fields_from c.args.line.now (c.field_end-end.result + 1))
     (said (goal.at.returns-in-Collect c).After-verb_of Verb.Collect c.in-Collect.is) c.read_collect.ensures in
     record { value = r.0; words_after = r.1.0; id_after = r.1.1.0; bytes_after = r.1.1.1 }
 
 pub returns-in-Acknowledge : goal.returns-in-Acknowledge
 returns-in-Acknowledge c =
-    let r = acknowledge_read c.args.words.now c.args.id.now c.args.bytes.now _ (fields_from c.args.line.now (c.field_end-end.result + 1)) 
+    let r = acknowledge_read c.args.words.now c.args.id.now c.args.bytes.now _ (fields_from c.args.line.now (c.field_end-end.result + 1))
     (said (goal.at.returns-in-Acknowledge c).After-verb_of Verb.Acknowledge c.in-Acknowledge.is) c.read_acknowledge.ensures in
     record { value = r.0; words_after = r.1.0; id_after = r.1.1.0; bytes_after = r.1.1.1 }
 
 pub returns-in-Store : goal.returns-in-Store
 returns-in-Store c =
-    let r = store_read c.args.words.now c.args.id.now c.args.bytes.now _ (fields_from c.args.line.now (c.field_end-end.result + 1)) 
+    let r = store_read c.args.words.now c.args.id.now c.args.bytes.now _ (fields_from c.args.line.now (c.field_end-end.result + 1))
     (said (goal.at.returns-in-Store c).After-verb_of Verb.Store c.in-Store.is) c.read_store.ensures in
     record { value = r.0; words_after = r.1.0; id_after = r.1.1.0; bytes_after = r.1.1.1 }
 

@@ -1,6 +1,6 @@
 -- A node and a number, and no field after them.
 -- Assumes nothing.
-use Rattle.units.proofs.Common.{sym, ◌∙◌, arith, not-false, not-true, rules}
+use Rattle.units.proofs.Common.{sym, ◌∙◌, arith, not-false, not-true}
 use Rattle.dialog.proofs.FieldLaws.{clash}
 use Rattle.lines.specs.Heard.{heard_of}
 use Rattle.lines.proofs.Found.{too_many, all_there, same_small, no_acknowledge}

@@ -1,6 +1,6 @@
 -- The second field is the ID, the third the bytes and the last; nothing is put before both are known to be bytes.
 -- Assumes nothing.
-use Rattle.units.proofs.Common.{sym, ◌∙◌, ap, arith, not-false, not-true, rules}
+use Rattle.units.proofs.Common.{sym, ◌∙◌, ap, arith, not-false, not-true}
 use Rattle.dialog.specs.Spoken.{longest_id, longest_plaque}
 use Rattle.dialog.proofs.FieldLaws.{clash}
 use Rattle.fields.specs.FieldsAt.{fields_from}

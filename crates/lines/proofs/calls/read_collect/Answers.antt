@@ -1,6 +1,6 @@
 -- A node, and a form that ends with the line.
 -- Assumes nothing.
-use Rattle.units.proofs.Common.{sym, ◌∙◌, ap, arith, not-false, not-true, ltb-false, ltb-true, rules}
+use Rattle.units.proofs.Common.{sym, ◌∙◌, ap, arith, not-false, not-true}
 use Rattle.dialog.proofs.FieldLaws.{clash}
 use Rattle.fields.specs.declared.FormRead.{FormRead}
 use Rattle.lines.specs.Heard.{heard_of}

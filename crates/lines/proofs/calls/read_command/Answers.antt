@@ -1,6 +1,6 @@
 -- The stamp is five fields, the form the sixth, the words are the rest.
 -- Assumes nothing.
-use Rattle.units.proofs.Common.{sym, ◌∙◌, ap, arith, length, length-map, not-false, not-true, rules, every}
+use Rattle.units.proofs.Common.{sym, ◌∙◌, ap, arith, length, length-map, not-false, not-true, every}
 use Rattle.dialog.proofs.FieldLaws.{clash}
 use Rattle.fields.specs.declared.FormRead.{FormRead}
 use Rattle.fields.specs.FieldsAt.{fields_from}

@@ -1,6 +1,6 @@
 -- A node, and no field after it.
 -- Assumes nothing.
-use Rattle.units.proofs.Common.{sym, ◌∙◌, arith, not-false, not-true, rules}
+use Rattle.units.proofs.Common.{sym, ◌∙◌, arith, not-false, not-true}
 use Rattle.dialog.proofs.FieldLaws.{clash}
 use Rattle.lines.specs.Heard.{heard_of}
 use Rattle.lines.proofs.Found.{too_many, all_there, no_leave}

@@ -1,6 +1,6 @@
 -- Two numbers and no field after them; then some words, and all of them within the store.
 -- Assumes nothing.
-use Rattle.units.proofs.Common.{sym, ◌∙◌, arith, not-false, not-true, rules}
+use Rattle.units.proofs.Common.{sym, ◌∙◌, arith, not-false, not-true}
 use Rattle.dialog.proofs.FieldLaws.{clash}
 use Rattle.fields.specs.FieldsAt.{fields_from}
 use Rattle.lines.specs.Heard.{heard_of}
