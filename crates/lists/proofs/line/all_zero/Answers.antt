@@ -1,7 +1,6 @@
 -- The words from the place on are zeros exactly if those from w on are.
 -- Assumes nothing.
-use Rattle.units.proofs.Common.{sym, ◌∙◌, ◌≡◌, refl, ◌-◌, arith, eqb, length, drop, eq-eqb, ne_eqb, rules, yes_and, no_and}
-use Rattle.machine.proofs.Terms.{zeros}
+use Rattle.units.proofs.Common.{sym, ◌∙◌, arith, eqb, eq-eqb, ne_eqb, yes_and, no_and}
 use Rattle.state.proofs.Lists.{every_at, every_end}
 use Rattle.lists.proofs.line.all_zero.Goals as goal
 

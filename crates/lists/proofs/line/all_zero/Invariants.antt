@@ -1,8 +1,7 @@
 -- The words from the place on are zeros exactly if those from w on are.
 -- Assumes nothing.
-use Rattle.units.proofs.Common.{sym, ◌∙◌, ◌≡◌, refl, ◌-◌, arith, eqb, length, drop, eq-eqb, ne_eqb, rules, yes_and, no_and}
+use Rattle.units.proofs.Common.{◌≡◌, ◌-◌, length, drop}
 use Rattle.machine.proofs.Terms.{zeros}
-use Rattle.state.proofs.Lists.{every_at, every_end}
 use Rattle.lists.proofs.line.all_zero.Given as goal
 
 abbrev pub invariant-loop-w : goal.invariant-loop-w

@@ -1,6 +1,6 @@
 -- An answer inside the store is in order exactly if the reader of responses accepts its words and they name the node.
 -- Assumes nothing.
-use Rattle.units.proofs.Common.{sym, ◌∙◌, arith, rules}
+use Rattle.units.proofs.Common.{sym, arith}
 use Rattle.meaning.proofs.Terms.{full}
 use Rattle.lists.proofs.WordsRead.{ok_none, ok_past, ok_read, ok_refused}
 use Rattle.lists.proofs.line.answer_ok.Goals as goal

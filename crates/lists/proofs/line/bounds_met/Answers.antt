@@ -1,6 +1,6 @@
 -- No count passes the limit exactly if none does from i on; so charges may be added up.
 -- Assumes nothing.
-use Rattle.units.proofs.Common.{sym, ◌∙◌, ◌≡◌, true, List, ◌≤◌, ◌-◌, ◌<◌, arith, leb, length, drop, get_or, length-map, le-leb, lt-leb, rules}
+use Rattle.units.proofs.Common.{sym, ◌∙◌, ◌≡◌, true, List, ◌≤◌, ◌<◌, arith, leb, length, get_or, length-map, le-leb, lt-leb, rules}
 use Rattle.units.proofs.Common.{yes_and, no_and}
 use Rattle.meaning.specs.Bench.{node_count}
 use Rattle.units.specs.declared.Words.{Words}
@@ -9,18 +9,6 @@ use Rattle.machine.proofs.Terms.{counts, bounded}
 use Rattle.state.proofs.Lists.{every_at, every_end}
 use Rattle.lists.proofs.Charges.{count_at, limited, limit_at}
 use Rattle.lists.proofs.line.bounds_met.Goals as goal
-
-pub loop-i-init : goal.loop-i-init
-unfolding bounded
-loop-i-init c = search rules
-
-pub offset_bounds-hs-i : goal.offset_bounds-hs-i
-unfolding bounded
-offset_bounds-hs-i c = search rules
-
-pub bounds-hs-i : goal.bounds-hs-i
-unfolding bounded
-bounds-hs-i c = search rules
 
 pub returns-then-h : goal.returns-then-h
 unfolding bounded
@@ -31,14 +19,6 @@ returns-then-h c =
     let l = c.loop-i in
     let h : full.limit < get_or (counts hs) l.i 0 = omega (arith, count_at hs l.i) in
     sym (no_and _ (l.invariant.1 ∙ every_at (λ h. leb h full.limit) (counts hs) l.i 0 (omega arith) ∙ no_and _ (lt-leb _ _ h)))
-
-pub overflow_add-i : goal.overflow_add-i
-unfolding bounded
-overflow_add-i c = search rules
-
-pub loop-i-smaller : goal.loop-i-smaller
-unfolding bounded
-loop-i-smaller c = search rules
 
 pub loop-i-preserved : goal.loop-i-preserved
 loop-i-preserved c =

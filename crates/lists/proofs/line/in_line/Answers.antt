@@ -1,6 +1,6 @@
 -- The whole walk is the rest of it: at each node, and at each of its answers.
 -- Assumes nothing.
-use Rattle.units.proofs.Common.{sym, ◌∙◌, ◌≡◌, ap, true, true≢false, ◌≤◌, arith, length, drop, rules}
+use Rattle.units.proofs.Common.{sym, ◌∙◌, ◌≡◌, ap, true, true≢false, arith, length, drop, rules}
 use Rattle.meaning.specs.Bench.{node_count}
 use Rattle.meaning.proofs.Terms.{full}
 use Rattle.machine.proofs.Terms.{counts, zeros}

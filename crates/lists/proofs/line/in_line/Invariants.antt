@@ -1,16 +1,11 @@
 -- The whole walk is the rest of it: at each node, and at each of its answers.
 -- Assumes nothing.
-use Rattle.units.proofs.Common.{sym, ◌∙◌, ◌≡◌, refl, ap, ⊎_elim, true, false, true≢false, List, ℕ, ◌≤◌, ◌-◌, ◌+◌, arith, length, drop, get_or}
-use Rattle.units.proofs.Common.{not-false, not-true, rules}
+use Rattle.units.proofs.Common.{◌≡◌, true, ◌≤◌, ◌-◌, ◌+◌, drop, get_or}
 use Rattle.meaning.specs.Bench.{node_count}
-use Rattle.units.specs.declared.Words.{Words}
 use Rattle.meaning.proofs.Terms.{full}
-use Rattle.machine.proofs.Terms.{counts, zeros}
-use Rattle.state.proofs.Lists.{length_mapped}
-use Rattle.lists.specs.Line.{ok_answer, in_line}
-use Rattle.lists.proofs.WordsRead.{Lies, lies}
-use Rattle.lists.proofs.Charges.{count_at, length_words}
-use Rattle.lists.proofs.Walk.{rest, go_in, go_end, go_on, go_bad, go_out, go_off}
+use Rattle.machine.proofs.Terms.{counts}
+use Rattle.lists.specs.Line.{in_line}
+use Rattle.lists.proofs.Walk.{rest}
 use Rattle.lists.proofs.line.in_line.Given as goal
 
 abbrev pub invariant-loop-k : goal.invariant-loop-k

@@ -1,5 +1,5 @@
 -- The code's test for an index of a reader is the definition's.
-use Rattle.units.proofs.Common.{sym, le-ltb, lt-ltb, rules, yes_cond, no_cond}
+use Rattle.units.proofs.Common.{sym, le-ltb, lt-ltb, yes_cond, no_cond}
 use Rattle.lists.proofs.line.node_at.Goals as goal
 
 pub returns-then-i-lt-READERS : goal.returns-then-i-lt-READERS

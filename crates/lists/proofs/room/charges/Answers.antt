@@ -1,6 +1,6 @@
 -- sum is the charges of the first i nodes.
 -- Assumes nothing.
-use Rattle.units.proofs.Common.{◌∙◌, ◌≡◌, ap, List, ℕ, ◌≤◌, ◌-◌, ◌<◌, ◌*◌, max, add-one, arith, length, get_or, take, length-map, take_all}
+use Rattle.units.proofs.Common.{◌∙◌, ◌≡◌, ap, List, ℕ, ◌≤◌, ◌<◌, max, add-one, arith, length, get_or, take, length-map, take_all}
 use Rattle.units.proofs.Common.{rules}
 use Rattle.meaning.specs.Bench.{node_count}
 use Rattle.units.specs.declared.Words.{Words}
@@ -13,18 +13,6 @@ pub loop-i-init : goal.loop-i-init
 unfolding charges_of
 loop-i-init c = search rules
 
-pub offset_bounds-hs-i : goal.offset_bounds-hs-i
-unfolding charges_of
-offset_bounds-hs-i c = search rules
-
-pub bounds-hs-i : goal.bounds-hs-i
-unfolding charges_of
-bounds-hs-i c = search rules
-
-pub charge-sum-requires : goal.charge-sum-requires
-unfolding charges_of
-charge-sum-requires c = search rules
-
 pub overflow_add-sum : goal.overflow_add-sum
 unfolding charges_of
 overflow_add-sum c =
@@ -33,14 +21,6 @@ overflow_add-sum c =
     (c.charge-sum.result.0 ≡ max full.share h) × (h ≤ full.limit) = let e = count_at c.args.hs c.loop-i.i in
     (rw e c.charge-sum.ensures, c.requires _ c.loop-i-test.true) in
     let a = added in record { fits = omega arith }
-
-pub overflow_add-i : goal.overflow_add-i
-unfolding charges_of
-overflow_add-i c = search rules
-
-pub loop-i-smaller : goal.loop-i-smaller
-unfolding charges_of
-loop-i-smaller c = search rules
 
 pub loop-i-preserved : goal.loop-i-preserved
 loop-i-preserved c =

@@ -1,12 +1,9 @@
 -- sum is the charges of the first i nodes.
 -- Assumes nothing.
-use Rattle.units.proofs.Common.{◌∙◌, ◌≡◌, ap, List, ℕ, ◌≤◌, ◌-◌, ◌<◌, ◌*◌, max, add-one, arith, length, get_or, take, length-map, take_all}
-use Rattle.units.proofs.Common.{rules}
+use Rattle.units.proofs.Common.{◌≡◌, ◌≤◌, ◌-◌, ◌*◌, take}
 use Rattle.meaning.specs.Bench.{node_count}
-use Rattle.units.specs.declared.Words.{Words}
 use Rattle.meaning.proofs.Terms.{full}
 use Rattle.machine.proofs.Terms.{counts, charges_of}
-use Rattle.lists.proofs.Charges.{count_at, charges_more}
 use Rattle.lists.proofs.room.charges.Given as goal
 
 abbrev pub invariant-loop-i : goal.invariant-loop-i

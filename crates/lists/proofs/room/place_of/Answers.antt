@@ -1,6 +1,6 @@
 -- sum is the words of the first k nodes.
 -- Assumes nothing.
-use Rattle.units.proofs.Common.{◌∙◌, ◌≡◌, ap, List, ◌≤◌, ◌-◌, ◌<◌, ◌*◌, arith, length, length-map, rules}
+use Rattle.units.proofs.Common.{◌∙◌, ◌≡◌, ap, List, ◌<◌, arith, length, length-map, rules}
 use Rattle.meaning.specs.Bench.{node_count, full}
 use Rattle.units.specs.declared.Words.{Words}
 use Rattle.machine.proofs.Terms.{counts}
@@ -12,30 +12,6 @@ use Rattle.lists.proofs.room.place_of.Goals as goal
 pub loop-k-init : goal.loop-k-init
 unfolding sum
 loop-k-init c = search rules
-
-pub offset_bounds-held-k : goal.offset_bounds-held-k
-unfolding sum
-offset_bounds-held-k c = search rules
-
-pub bounds-held-k : goal.bounds-held-k
-unfolding sum
-bounds-held-k c = search rules
-
-pub overflow_cast-sum : goal.overflow_cast-sum
-unfolding sum
-overflow_cast-sum c = search rules
-
-pub overflow_add-sum : goal.overflow_add-sum
-unfolding sum
-overflow_add-sum c = search rules
-
-pub overflow_add-k : goal.overflow_add-k
-unfolding sum
-overflow_add-k c = search rules
-
-pub loop-k-smaller : goal.loop-k-smaller
-unfolding sum
-loop-k-smaller c = search rules
 
 pub loop-k-preserved : goal.loop-k-preserved
 loop-k-preserved c =

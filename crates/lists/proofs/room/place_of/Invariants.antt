@@ -1,12 +1,8 @@
 -- sum is the words of the first k nodes.
 -- Assumes nothing.
-use Rattle.units.proofs.Common.{◌∙◌, ◌≡◌, ap, List, ◌≤◌, ◌-◌, ◌<◌, ◌*◌, arith, length, length-map, rules}
-use Rattle.meaning.specs.Bench.{node_count, full}
-use Rattle.units.specs.declared.Words.{Words}
+use Rattle.units.proofs.Common.{◌≡◌, ◌≤◌, ◌-◌, ◌*◌}
 use Rattle.machine.proofs.Terms.{counts}
-use Rattle.lists.specs.Room.{sum, place_of}
-use Rattle.lists.proofs.Charges.{count_at}
-use Rattle.lists.proofs.Places.{place_suc}
+use Rattle.lists.specs.Room.{place_of}
 use Rattle.lists.proofs.room.place_of.Given as goal
 
 abbrev pub invariant-loop-k : goal.invariant-loop-k
