@@ -1,11 +1,8 @@
 -- After so many steps the first nodes are swept and the others as they were; at the end that is `map`.
-use Rattle.units.proofs.Common.{◌≡◌, refl, [], ◌++◌, map, append-nil, ◌≤◌, ◌-◌, arith, length, drop, take, drop_of_length-le, take_all}
-use Rattle.units.proofs.Common.{rules}
+use Rattle.units.proofs.Common.{◌≡◌, ◌++◌, map, ◌≤◌, ◌-◌, drop, take}
 use Rattle.meaning.specs.Bench.{node_count}
 use Rattle.meaning.specs.Bench.{full}
-use Rattle.state.proofs.Lists.{length_mapped}
 use Rattle.store.specs.Swept.{swept_node}
-use Rattle.store.proofs.Loops.{map_more}
 use Rattle.store.proofs.swept.Given as goal
 
 abbrev pub invariant-loop-k : goal.invariant-loop-k
