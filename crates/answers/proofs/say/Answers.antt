@@ -6,8 +6,7 @@ use Rattle.answers.proofs.say.Goals as goal
 pub overflow_cast-bytes : goal.overflow_cast-bytes
 overflow_cast-bytes c = record { fits = omega (arith, short c.args.r c.args.bytes.now (length c.args.answer.now) c.requires) }
 
--- LEFT returns at After_overall: 1
--- let s = c.before.before.before.before.before.before.before in
---     let a = s.args in
---     says a.r a.bytes.now (length a.answer.now) s.requires (search rules) (search rules) _ _ refl (search rules)
---     c.before.before.before.write-response.ensures.1 _ c.overall.ensures
+pub returns : goal.returns
+returns c =
+    says c.args.r c.args.bytes.now (length c.args.answer.now) c.requires (search rules) (search rules) _ _ refl (search rules)
+    c.write_response.ensures.out_after _ c.overall.ensures

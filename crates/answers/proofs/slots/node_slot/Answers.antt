@@ -1,5 +1,5 @@
 -- The gateway is last, a reader is one below its number, and what is no node is past them all.
-use Rattle.units.proofs.Common.{ne_eqb, le-leb, lt-leb, rules}
+use Rattle.units.proofs.Common.{ne_eqb, le-leb, lt-leb}
 use Rattle.answers.proofs.slots.node_slot.Goals as goal
 
 pub returns-then-node-eq-HUB : goal.returns-then-node-eq-HUB

@@ -1,5 +1,5 @@
 -- A reader is one below its number; what is no reader is past them all.
-use Rattle.units.proofs.Common.{le-leb, lt-leb, rules}
+use Rattle.units.proofs.Common.{le-leb, lt-leb}
 use Rattle.answers.proofs.slots.reader_slot.Goals as goal
 
 pub returns-then-node-lt1 : goal.returns-then-node-lt1
