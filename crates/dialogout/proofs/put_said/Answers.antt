@@ -2,7 +2,6 @@
 -- Assumes nothing.
 use Rattle.promise.specs.Obeyed.{said_of}
 use Rattle.dialog.specs.Dialog.{said_line}
-use Rattle.units.proofs.Common.{rules}
 use Rattle.dialogout.proofs.put_said.Goals as goal
 
 pub returns-in-Refused : goal.returns-in-Refused

@@ -1,7 +1,6 @@
 -- The text is the line.
 -- Assumes nothing.
 use Rattle.dialog.specs.Dialog.{unreadable_line}
-use Rattle.units.proofs.Common.{rules}
 use Rattle.dialogout.proofs.put_unreadable.Goals as goal
 
 pub returns : goal.returns
