@@ -1,11 +1,9 @@
 -- What was decided at a reader, put back into any machine that the parts are of, is the outcome that the definition settles.
 -- Assumes nothing.
 use Rattle.units.proofs.Common.{sym, ◌∙◌, ◌≡◌, refl, ap, subst, true, false, Bool, not, List, [], ◌∷◌, ◌++◌, append_assoc, append-nil, ℕ}
-use Rattle.units.proofs.Common.{◌≤◌, ◌-◌, ◌+◌, ◌<◌, ◌*◌, add-zero, arith, eqb, T, length, drop, get_or, take, replicate, drop_of_length-le}
-use Rattle.units.proofs.Common.{length-replicate, take_all, paste, slice, set-get_or, bytes_of, keys}
+use Rattle.units.proofs.Common.{◌≤◌, ◌-◌, ◌+◌, ◌<◌, ◌*◌, add-zero, arith, length, drop, get_or, take, replicate, drop_of_length-le}
+use Rattle.units.proofs.Common.{length-replicate, take_all, paste, slice, set-get_or, bytes_of}
 use lib.Seq.{length-paste}
-use types.Run.{OneOf}
-use denote.Enum.Declared.{tag_of}
 use borrow.Rule.Slice.PartMut.{put_mid, Post-is, put_same}
 use Rattle.units.specs.declared.Words.{Words}
 use Rattle.meaning.specs.Bench.{memory_size}
@@ -24,7 +22,6 @@ use Rattle.store.specs.declared.Enlisted.{Enlisted}
 use Rattle.store.specs.declared.Broom.TheVariants as B
 use Rattle.promise.specs.Obeyed.{said_of, Does}
 use Rattle.promise.specs.declared.Reply.{Reply}
-use Rattle.promise.specs.contracts.Reply.{the_type}
 use Rattle.promise.proofs.Parts.{parts, Means}
 use Rattle.promise.proofs.Tables.{reader_range, reader_node, reader_slot}
 use Rattle.promise.proofs.Regions.{Within, region_paste, region_long, pasted}
@@ -242,12 +239,12 @@ module _ (n : ℕ) (is : is_reader full n ≡ true) (memory : List ℕ) (long : 
   unfolding memory_after
   queued_back e c ys h y = put_back n is memory long c ws ys h y ∙ ap (λ (p : Reply). memory_after full n p c ws memory) (sym e)
 
-  pub other_back : (p : Reply) (c : Change) → OneOf (0 ∷ 1 ∷ 2 ∷ []) (tag_of the_type p) → memory ≡ memory_after full n p c ws memory
+  pub still_back : (p : Reply) (c : Change) → (p ≡ Reply.Queued → ⊥) → memory ≡ memory_after full n p c ws memory
   unfolding memory_after
-  other_back (Reply.Refused k) c e = refl
-  other_back Reply.Done c e = refl
-  other_back Reply.Quiet c e = refl
-  other_back Reply.Queued c e = absurd (keys (λ (x : ℕ). T (not (eqb x 3))) (0 ∷ 1 ∷ 2 ∷ []) 3 e (tt, (tt, (tt, tt))))
+  still_back (Reply.Refused k) c e = refl
+  still_back Reply.Done c e = refl
+  still_back Reply.Quiet c e = refl
+  still_back Reply.Queued c e = absurd (e refl)
 
   -- a region kept is the region put back
   pub kept_back : (p : Reply) → memory_after full n p C.Kept ws memory ≡ memory

@@ -1,6 +1,6 @@
 -- What was decided at the reader, settled in its parts and its region, is the definition's outcome of the command (`Acting`).
 use Rattle.units.proofs.Common.{refl, rules}
-use Rattle.settle.proofs.Seating.{index, memory_long, lent_inside, queued_back, other_back}
+use Rattle.settle.proofs.Seating.{index, memory_long, lent_inside, queued_back, still_back}
 use Rattle.acts.proofs.Acting.{readable, suited, obeys}
 use Rattle.acts.proofs.obeyed.Goals as goal
 
@@ -42,4 +42,4 @@ returns-in-Queued c =
 pub returns-in_default : goal.returns-in_default
 returns-in_default c =
     obeys c.requires.0 _ _ _ refl _ c.serve-d.ensures c.seat-r.result c.seat-r.ensures
-    (other_back _ c.requires.0.is _ (memory_long c.requires.0) _ _ _ c.in_default.keys2)
+    (still_back _ c.requires.0.is _ (memory_long c.requires.0) _ _ _ c.in_default.not-Queued)

@@ -12,39 +12,19 @@ use Rattle.command.proofs.Judging.{its_refusal, its_kind, its_command}
 use Rattle.obey.proofs.Packets.{orderly, heeded, step_reader_is, step_hub_is, instead}
 use Rattle.obey.proofs.obey.Goals as goal
 
-pub judge_command-j-requires : goal.judge_command-j-requires
-unfolding said_of
-judge_command-j-requires c = search rules
-
-pub refused-requires : goal.refused-requires
-unfolding said_of
-refused-requires c = search rules
-
 pub returns-then-j-ne0 : goal.returns-then-j-ne0
 unfolding said_of
 returns-then-j-ne0 c =
     let e = its_refusal full _ _ _ c.judge_command-j.ensures in let k = S.command _ _ _ in
-    called c.refused.ensures (stepped k c.requires (turning full ((machine c.args.s c.args.store.now c.args.plaques.now)) k c.requires _
+    called c.refused.ensures (stepped k c.requires (turning full (machine c.args.s c.args.store.now c.args.plaques.now) k c.requires _
     (step_refused full _ k _ (sym e) c.if-j-ne0.true)))
-
-pub command_data-data-requires : goal.command_data-data-requires
-unfolding said_of
-command_data-data-requires c = search rules
 
 pub rule-requires : goal.rule-requires
 unfolding said_of
 rule-requires c =
     let e = sym (its_refusal full _ _ _ c.judge_command-j.ensures) ∙ c.if-j-ne0.false in
     heeded full _ _ _ e (its_kind full _ _ _ c.judge_command-j.ensures) (its_command full _ _ _ c.judge_command-j.ensures)
-    c.command_data-data.ensures ((machine c.args.s c.args.store.now c.args.plaques.now)) c.requires
-
-pub shape_of-store-then-m-eq-HUB : goal.shape_of-store-then-m-eq-HUB
-unfolding said_of
-shape_of-store-then-m-eq-HUB c = search rules
-
-pub shape_of-plaques-then-m-eq-HUB : goal.shape_of-plaques-then-m-eq-HUB
-unfolding said_of
-shape_of-plaques-then-m-eq-HUB c = search rules
+    c.command_data-data.ensures (machine c.args.s c.args.store.now c.args.plaques.now) c.requires
 
 pub returns-then-m-eq-HUB : goal.returns-then-m-eq-HUB
 returns-then-m-eq-HUB c =
@@ -52,7 +32,7 @@ returns-then-m-eq-HUB c =
     let p = c.judge_command-j.ensures in
     let e = sym (its_refusal full a.t a.form a.words.now p) ∙ c.if-j-ne0.false in
     instead (step_hub_is full a.t a.form a.words.now e (its_kind full a.t a.form a.words.now p)
-    (its_command full a.t a.form a.words.now p) c.command_data-data.ensures (meaning full ((machine c.args.s c.args.store.now c.args.plaques.now))) full_sound c.if-m-eq-HUB.true)
+    (its_command full a.t a.form a.words.now p) c.command_data-data.ensures (meaning full (machine c.args.s c.args.store.now c.args.plaques.now)) full_sound c.if-m-eq-HUB.true)
     c.rule.ensures
 
 pub order-requires : goal.order-requires
@@ -61,15 +41,7 @@ order-requires c =
     let p = c.judge_command-j.ensures in
     let e = sym (its_refusal full a.t a.form a.words.now p) ∙ c.if-j-ne0.false in
     orderly full a.t a.form a.words.now e (its_kind full a.t a.form a.words.now p)
-    (its_command full a.t a.form a.words.now p) c.command_data-data.ensures c.if-m-eq-HUB.false ((machine c.args.s c.args.store.now c.args.plaques.now)) c.requires
-
-pub shape_of-store : goal.shape_of-store
-unfolding said_of
-shape_of-store c = search rules
-
-pub shape_of-plaques : goal.shape_of-plaques
-unfolding said_of
-shape_of-plaques c = search rules
+    (its_command full a.t a.form a.words.now p) c.command_data-data.ensures c.if-m-eq-HUB.false (machine c.args.s c.args.store.now c.args.plaques.now) c.requires
 
 pub returns : goal.returns
 returns c =
@@ -79,5 +51,5 @@ returns c =
     let k = its_kind full a.t a.form a.words.now p in
     let w = its_command full a.t a.form a.words.now p in
     let l = c.command_data-data.ensures in
-    let r = (orderly full a.t a.form a.words.now e k w l c.if-m-eq-HUB.false ((machine c.args.s c.args.store.now c.args.plaques.now)) c.requires).reader in
-    instead (step_reader_is full a.t a.form a.words.now e k w l (meaning full ((machine c.args.s c.args.store.now c.args.plaques.now))) r) c.order.ensures
+    let r = (orderly full a.t a.form a.words.now e k w l c.if-m-eq-HUB.false (machine c.args.s c.args.store.now c.args.plaques.now) c.requires).reader in
+    instead (step_reader_is full a.t a.form a.words.now e k w l (meaning full (machine c.args.s c.args.store.now c.args.plaques.now)) r) c.order.ensures

@@ -8,9 +8,9 @@ use Rattle.obey.proofs.rule.Goals as goal
 
 pub governed-r-requires : goal.governed-r-requires
 governed-r-requires c =
-    (houseable ((machine c.args.s c.args.store.now c.args.plaques.now)) c.requires.fit, c.requires.stamp, c.requires.told)
+    (houseable (machine c.args.s c.args.store.now c.args.plaques.now) c.requires.fit, c.requires.stamp, c.requires.told)
 
 pub returns : goal.returns
 returns c =
-    houses_here ((machine c.args.s c.args.store.now c.args.plaques.now)) c.requires.fit (λ g. heeding full g c.args.t c.args.kind
+    houses_here (machine c.args.s c.args.store.now c.args.plaques.now) c.requires.fit (λ g. heeding full g c.args.t c.args.kind
     (load_of full c.args.m c.args.words.now)) c.governed-r.result c.governed-r.ensures

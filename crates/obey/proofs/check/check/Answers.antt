@@ -1,5 +1,5 @@
 -- A wrong stamp, or no reader: refused; else what the reader's parts come to is the meaning's step (`Taking`).
-use Rattle.units.proofs.Common.{sym, ◌∙◌, not-false, not-true, rules}
+use Rattle.units.proofs.Common.{sym, ◌∙◌, rules}
 use Rattle.meaning.proofs.Terms.{full, check}
 use Rattle.machine.proofs.Terms.{Machine, machine}
 use Rattle.promise.specs.Obeyed.{said_of}
@@ -10,28 +10,12 @@ use Rattle.answers.proofs.Replies.{stepped, called}
 use Rattle.obey.proofs.Taking.{seatable, seats_here, checks_here}
 use Rattle.obey.proofs.check.check.Goals as goal
 
-pub is_valid-requires : goal.is_valid-requires
-unfolding said_of
-is_valid-requires c = search rules
-
-pub refused-requires : goal.refused-requires
-unfolding said_of
-refused-requires c = search rules
-
 pub returns-then-not-is_valid : goal.returns-then-not-is_valid
 unfolding said_of
 returns-then-not-is_valid c =
     called c.refused.ensures (stepped (check c.args.node c.args.t c.args.clock) c.requires
-    (checked_3 full ((machine c.args.s c.args.store.now c.args.plaques.now)) c.requires c.args.node c.args.t c.args.clock
-    (sym c.is_valid.ensures ∙ not-true _ c.if-not-is_valid.true)))
-
-pub reader_slot-i-requires : goal.reader_slot-i-requires
-unfolding said_of
-reader_slot-i-requires c = search rules
-
-pub refused-requires-then-i-ge-READERS : goal.refused-requires-then-i-ge-READERS
-unfolding said_of
-refused-requires-then-i-ge-READERS c = search rules
+    (checked_3 full (machine c.args.s c.args.store.now c.args.plaques.now) c.requires c.args.node c.args.t c.args.clock
+    (sym c.is_valid.ensures ∙ c.if-not-is_valid.true)))
 
 -- 7
 pub returns-then-i-ge-READERS : goal.returns-then-i-ge-READERS
@@ -39,12 +23,8 @@ unfolding said_of
 returns-then-i-ge-READERS c =
     let a = c.args in
     called c.refused-then-i-ge-READERS.ensures (stepped (check a.node a.t a.clock) c.requires
-    (checked_7 full ((machine c.args.s c.args.store.now c.args.plaques.now)) c.requires a.node a.t a.clock (sym c.is_valid.ensures ∙ not-false _ c.if-not-is_valid.false)
+    (checked_7 full (machine c.args.s c.args.store.now c.args.plaques.now) c.requires a.node a.t a.clock (sym c.is_valid.ensures ∙ c.if-not-is_valid.false)
     (slot_out a.node _ c.reader_slot-i.ensures c.if-i-ge-READERS.true)))
-
-pub offset_bounds-s-i : goal.offset_bounds-s-i
-unfolding said_of
-offset_bounds-s-i c = search rules
 
 pub bounds-s-i : goal.bounds-s-i
 unfolding said_of
@@ -53,35 +33,23 @@ bounds-s-i c =
     c.reader_slot-i.ensures c.if-i-ge-READERS.false in
     search rules
 
-pub offset_bounds-s-i-2 : goal.offset_bounds-s-i-2
-unfolding said_of
-offset_bounds-s-i-2 c = search rules
-
-pub bounds-s-i-2 : goal.bounds-s-i-2
-unfolding said_of
-bounds-s-i-2 c = search rules
-
 pub looked-r-requires : goal.looked-r-requires
 unfolding said_of
 looked-r-requires c =
     let p = slot_in c.args.node c.reader_slot-i.result c.reader_slot-i.ensures c.if-i-ge-READERS.false in (
-      seatable ((machine c.args.s c.args.store.now c.args.plaques.now)) c.requires c.args.node _ p.0 p.1,
-      sym c.is_valid.ensures ∙ not-false _ c.if-not-is_valid.false,
+      seatable (machine c.args.s c.args.store.now c.args.plaques.now) c.requires c.args.node _ p.0 p.1,
+      sym c.is_valid.ensures ∙ c.if-not-is_valid.false,
     )
 
 pub seated-requires : goal.seated-requires
 unfolding said_of
 seated-requires c = c.if-i-ge-READERS.false
 
-pub shape_of-store : goal.shape_of-store
-unfolding said_of
-shape_of-store c = search rules
-
 pub returns : goal.returns
 returns c =
     let a = c.args in
     let p = slot_in a.node c.reader_slot-i.result c.reader_slot-i.ensures c.if-i-ge-READERS.false in
-    checks_here ((machine c.args.s c.args.store.now c.args.plaques.now)) c.requires a.node _ p.0 p.1 a.t a.clock
-    (sym c.is_valid.ensures ∙ not-false _ c.if-not-is_valid.false)
-    (seats_here ((machine c.args.s c.args.store.now c.args.plaques.now)) c.requires a.node _ p.0 p.1 (λ g. looking full g a.node a.t a.clock) c.looked-r.result
+    checks_here (machine c.args.s c.args.store.now c.args.plaques.now) c.requires a.node _ p.0 p.1 a.t a.clock
+    (sym c.is_valid.ensures ∙ c.if-not-is_valid.false)
+    (seats_here (machine c.args.s c.args.store.now c.args.plaques.now) c.requires a.node _ p.0 p.1 (λ g. looking full g a.node a.t a.clock) c.looked-r.result
     c.looked-r.ensures c.seated.ensures)
