@@ -6,29 +6,9 @@ use Rattle.promise.proofs.Promises.{unlent, by_step}
 use Rattle.answers.proofs.Replies.{called}
 use Rattle.gateway.proofs.acknowledge.Goals as goal
 
-pub unfit-k-requires : goal.unfit-k-requires
-unfolding said_of
-unfit-k-requires c = search rules
-
-pub refused-requires : goal.refused-requires
-unfolding said_of
-refused-requires c = search rules
-
-pub shape_of-store-then-k-ne0 : goal.shape_of-store-then-k-ne0
-unfolding said_of
-shape_of-store-then-k-ne0 c = search rules
-
 pub returns-then-k-ne0 : goal.returns-then-k-ne0
 unfolding said_of
 returns-then-k-ne0 c = called c.refused.ensures (unlent full _ _ _ (sym c.unfit-k.ensures) c.if-k-ne0.true)
-
-pub acknowledge-requires : goal.acknowledge-requires
-unfolding said_of
-acknowledge-requires c = search rules
-
-pub shape_of-store : goal.shape_of-store
-unfolding said_of
-shape_of-store c = search rules
 
 pub returns : goal.returns
 unfolding said_of

@@ -6,18 +6,6 @@ use Rattle.promise.proofs.Promises.{unlent, by_step}
 use Rattle.answers.proofs.Replies.{called}
 use Rattle.gateway.proofs.check.Goals as goal
 
-pub unfit-k-requires : goal.unfit-k-requires
-unfolding said_of
-unfit-k-requires c = search rules
-
-pub refused-requires : goal.refused-requires
-unfolding said_of
-refused-requires c = search rules
-
-pub shape_of-store-then-k-ne0 : goal.shape_of-store-then-k-ne0
-unfolding said_of
-shape_of-store-then-k-ne0 c = search rules
-
 pub returns-then-k-ne0 : goal.returns-then-k-ne0
 unfolding said_of
 returns-then-k-ne0 c = called c.refused.ensures (unlent full _ _ _ (sym c.unfit-k.ensures) c.if-k-ne0.true)
@@ -25,10 +13,6 @@ returns-then-k-ne0 c = called c.refused.ensures (unlent full _ _ _ (sym c.unfit-
 pub check-requires : goal.check-requires
 unfolding said_of
 check-requires c = sym c.unfit-k.ensures ∙ c.if-k-ne0.false
-
-pub shape_of-store : goal.shape_of-store
-unfolding said_of
-shape_of-store c = search rules
 
 pub returns : goal.returns
 unfolding said_of
