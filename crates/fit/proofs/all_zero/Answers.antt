@@ -1,6 +1,5 @@
 -- The loop's invariant: the bytes from the start on are zeros exactly where those from here on are.
-use Rattle.units.proofs.Common.{sym, ◌∙◌, ◌≡◌, ◌-◌, arith, eqb, length, drop, eq-eqb, ne_eqb, rules, yes_and, no_and}
-use Rattle.machine.proofs.Terms.{zeros}
+use Rattle.units.proofs.Common.{sym, ◌∙◌, arith, eqb, eq-eqb, ne_eqb, yes_and, no_and}
 use Rattle.state.proofs.Lists.{every_at, every_end}
 use Rattle.fit.proofs.all_zero.Goals as goal
 

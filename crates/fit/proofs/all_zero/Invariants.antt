@@ -1,7 +1,6 @@
 -- The loop's invariant: the bytes from the start on are zeros exactly where those from here on are.
-use Rattle.units.proofs.Common.{sym, ◌∙◌, ◌≡◌, ◌-◌, arith, eqb, length, drop, eq-eqb, ne_eqb, rules, yes_and, no_and}
+use Rattle.units.proofs.Common.{◌≡◌, ◌-◌, length, drop}
 use Rattle.machine.proofs.Terms.{zeros}
-use Rattle.state.proofs.Lists.{every_at, every_end}
 use Rattle.fit.proofs.all_zero.Given as goal
 
 abbrev pub invariant-loop-i : goal.invariant-loop-i

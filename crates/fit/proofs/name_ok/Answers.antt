@@ -1,5 +1,5 @@
 -- The name is within its bytes, and zeros stand behind it.
-use Rattle.units.proofs.Common.{sym, ◌∙◌, le-leb, lt-leb, rules, yes_and, no_and}
+use Rattle.units.proofs.Common.{sym, ◌∙◌, le-leb, lt-leb, yes_and, no_and}
 use Rattle.machine.proofs.Terms.{name_ok}
 use Rattle.fit.proofs.name_ok.Goals as goal
 

@@ -1,5 +1,5 @@
 -- The loop's invariant: all nodes are in order exactly where those from here on are.
-use Rattle.units.proofs.Common.{sym, ◌∙◌, ◌≡◌, List, ◌≤◌, ◌-◌, arith, length, drop, le-leb, lt-leb, rules, every, yes_and, no_and}
+use Rattle.units.proofs.Common.{sym, ◌∙◌, ◌≡◌, List, arith, length, le-leb, lt-leb, rules, yes_and, no_and}
 use Rattle.meaning.specs.Bench.{full}
 use Rattle.meaning.specs.Bench.{node_count}
 use Rattle.machine.proofs.Terms.{node_ok}

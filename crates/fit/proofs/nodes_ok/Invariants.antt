@@ -1,10 +1,8 @@
 -- The loop's invariant: all nodes are in order exactly where those from here on are.
-use Rattle.units.proofs.Common.{sym, ◌∙◌, ◌≡◌, List, ◌≤◌, ◌-◌, arith, length, drop, le-leb, lt-leb, rules, every, yes_and, no_and}
+use Rattle.units.proofs.Common.{◌≡◌, ◌≤◌, ◌-◌, drop, every}
 use Rattle.meaning.specs.Bench.{full}
 use Rattle.meaning.specs.Bench.{node_count}
 use Rattle.machine.proofs.Terms.{node_ok}
-use Rattle.state.specs.declared.node.Node.{Node}
-use Rattle.state.proofs.Lists.{length_mapped, every_at, every_end}
 use Rattle.fit.proofs.nodes_ok.Given as goal
 
 abbrev pub invariant-loop-i : goal.invariant-loop-i

@@ -1,5 +1,5 @@
 -- The test fails at the first part that is out of order, and else is the last part's.
-use Rattle.units.proofs.Common.{sym, ◌∙◌, not-false, not-true, rules, yes_and, no_and}
+use Rattle.units.proofs.Common.{sym, ◌∙◌, yes_and, no_and}
 use Rattle.machine.proofs.Terms.{reader_ok}
 use Rattle.fit.proofs.reader_ok.Goals as goal
 

@@ -1,6 +1,6 @@
 -- The loop's invariant: all readers are in order exactly where those from here on are.
-use Rattle.units.proofs.Common.{sym, ◌∙◌, ◌≡◌, ap, true, false, List, ◌≤◌, ◌-◌, arith, length, drop, get_or, not-false, not-true, rules}
-use Rattle.units.proofs.Common.{every, yes_and, no_and}
+use Rattle.units.proofs.Common.{sym, ◌∙◌, ◌≡◌, ap, true, false, List, arith, length, get_or, rules}
+use Rattle.units.proofs.Common.{yes_and, no_and}
 use Rattle.meaning.proofs.Terms.{full}
 use Rattle.machine.proofs.Terms.{reader_ok, fresh_reader}
 use Rattle.state.specs.declared.reader.Reader.{Reader}

@@ -1,5 +1,5 @@
 -- Off, both other parts are 0; on, all three are within their limits: the test fails at the first that is not.
-use Rattle.units.proofs.Common.{sym, ◌∙◌, ◌≤◌, ◌+◌, ◌<◌, arith, eq-eqb, ne_eqb, le-leb, lt-leb, rules, yes_cond, no_cond, yes_and, no_and}
+use Rattle.units.proofs.Common.{sym, ◌∙◌, ◌≤◌, ◌+◌, ◌<◌, arith, eq-eqb, ne_eqb, le-leb, lt-leb, yes_cond, no_cond, yes_and, no_and}
 use Rattle.meaning.proofs.Terms.{full}
 use Rattle.machine.proofs.Terms.{reading_ok}
 use Rattle.fit.proofs.reading_ok.Goals as goal

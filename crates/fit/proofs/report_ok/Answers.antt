@@ -1,5 +1,5 @@
 -- A report that is kept has an ID of eight bytes; one that is not is blank.
-use Rattle.units.proofs.Common.{sym, ◌∙◌, ◌≡◌, true, eqb, length, eq-eqb, not-false, not-true, rules, yes_cond, no_cond, yes_and, no_and}
+use Rattle.units.proofs.Common.{sym, ◌∙◌, ◌≡◌, true, eqb, length, eq-eqb, rules, yes_cond, no_cond, yes_and, no_and}
 use Rattle.machine.proofs.Terms.{report_ok}
 use Rattle.fit.proofs.report_ok.Goals as goal
 

@@ -1,5 +1,5 @@
 -- The lengths first, then each test in the definition's order: the number is that of the first that fails.
-use Rattle.units.proofs.Common.{sym, ◌∙◌, ◌≡◌, refl, ap, true, not, length, eq-eqb, ne_eqb, not-false, not-true, rules, yes_and, no_and}
+use Rattle.units.proofs.Common.{sym, ◌∙◌, ◌≡◌, refl, ap, true, not, length, eq-eqb, ne_eqb, rules, yes_and, no_and}
 use Rattle.units.proofs.Common.{every}
 use Rattle.meaning.specs.Bench.{node_count}
 use Rattle.meaning.proofs.Terms.{full, refusal, ◌when◌}
