@@ -1,7 +1,7 @@
 -- Document 01, "Room" and "Refusal numbers", for a state with places: 1, "store or plaque memory of another length"; 2, "state not
 -- consistent". Where the answers lie is judged here; readers, name and bounds as without places.
 -- Assumes nothing.
-use Rattle.std.specs.Prelude.{ℕ, suc, ◌+◌, ◌*◌, max, min, Bool, true, not, ◌&&◌, cond, List, [], ◌∷◌, ◌++◌, map, leb, ltb, eqb, length, get_or}
+use Rattle.std.specs.Prelude.{ℕ, suc, ◌+◌, max, min, Bool, true, not, ◌&&◌, cond, List, [], ◌∷◌, ◌++◌, map, leb, ltb, eqb, length, get_or}
 use Rattle.units.specs.Count.{every}
 use Rattle.meaning.specs.Refusal.{Doubts, ◌when◌, ◌or_else◌, refusal}
 use Rattle.meaning.specs.Bench.{Bench, node_count, memory_size}

@@ -1,5 +1,5 @@
 -- After so many steps all nodes passed are in order, and a node that is not ends the loop: that is `every`.
-use Rattle.units.proofs.Common.{sym, ◌∙◌, ◌≡◌, List, ◌≤◌, ◌-◌, arith, length, drop, le-leb, lt-leb, rules, every, yes_and, no_and}
+use Rattle.units.proofs.Common.{sym, ◌∙◌, ◌≡◌, List, arith, length, le-leb, lt-leb, rules, yes_and, no_and}
 use Rattle.placed.specs.Consistent.{node_ok}
 use Rattle.placed.specs.declared.Node.{Node}
 use Rattle.state.proofs.Lists.{length_mapped, every_at, every_end}

@@ -1,5 +1,5 @@
 -- The code asks what the definition doubts, in its order: the lengths, the lists, the nodes, the readers, the name.
-use Rattle.units.proofs.Common.{sym, ◌∙◌, ◌≡◌, refl, ap, true, not, length, eq-eqb, ne_eqb, not-false, not-true, rules, yes_and, no_and}
+use Rattle.units.proofs.Common.{sym, ◌∙◌, ◌≡◌, refl, ap, true, not, length, eq-eqb, ne_eqb, rules, yes_and, no_and}
 use Rattle.units.proofs.Common.{every}
 use Rattle.meaning.proofs.Terms.{full, refusal, ◌when◌}
 use Rattle.machine.proofs.Terms.{reader_ok}

@@ -1,6 +1,6 @@
 -- The words of all lists are counted right exactly if those from node i on are.
 -- Assumes nothing.
-use Rattle.units.proofs.Common.{sym, ◌∙◌, ◌≡◌, ap, subst, ◌≤◌, ◌-◌, arith, length, drop, get_or, not-false, not-true, rules, every, yes_and}
+use Rattle.units.proofs.Common.{sym, ◌∙◌, ◌≡◌, ap, subst, arith, length, get_or, rules, yes_and}
 use Rattle.units.proofs.Common.{no_and}
 use Rattle.meaning.proofs.Terms.{full}
 use Rattle.placed.specs.Consistent.{count_right}

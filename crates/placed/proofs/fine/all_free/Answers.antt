@@ -1,6 +1,6 @@
 -- No word from the place to w is marked.
 -- Assumes nothing.
-use Rattle.units.proofs.Common.{◌≡◌, refl, ⊎_elim, inl, inr, false, ℕ, ◌≤◌, ◌-◌, ◌<◌, arith, get_or, rules}
+use Rattle.units.proofs.Common.{◌≡◌, refl, ⊎_elim, inl, inr, ◌≤◌, ◌<◌, arith}
 use Rattle.state.proofs.Lists.{below_or}
 use Rattle.placed.proofs.fine.all_free.Goals as goal
 

@@ -1,8 +1,8 @@
 -- A walk over the pending answers (`Walk`): the marks are those of the answers passed, and the lists are fine exactly if the rest is.
 -- Each way on, and each way out, is one law of the walk. No more answers are passed than words.
 -- Assumes nothing.
-use Rattle.units.proofs.Common.{sym, ◌∙◌, ◌≡◌, refl, ap, ⊎_elim, true, false, List, ℕ, ◌≤◌, ◌-◌, ◌+◌, add-one, arith, length, get_or}
-use Rattle.units.proofs.Common.{length-replicate, not-false, not-true, rules}
+use Rattle.units.proofs.Common.{sym, ◌∙◌, ◌≡◌, refl, ap, ⊎_elim, true, false, ◌≤◌, ◌+◌, add-one, arith, length, get_or}
+use Rattle.units.proofs.Common.{length-replicate, rules}
 use lib.ListN.{get_or-replicate}
 use Rattle.meaning.proofs.Terms.{full}
 use Rattle.placed.specs.Consistent.{ok_answer}
@@ -10,7 +10,7 @@ use Rattle.placed.specs.declared.Node.{Node}
 use Rattle.placed.proofs.Formed.{lies, ok_front}
 use Rattle.placed.proofs.InOrder.{node_any}
 use Rattle.state.proofs.Lists.{length_mapped}
-use Rattle.placed.proofs.Marks.{apart, Walk, nodes_left, left, walk_start, walk_in, walk_bad, walk_taken, walk_next, walk_end}
+use Rattle.placed.proofs.Marks.{apart, walk_start, walk_in, walk_bad, walk_taken, walk_next, walk_end}
 use Rattle.placed.proofs.Marks.{walk_at, walk_out}
 use Rattle.placed.proofs.fine.fine_lists.Goals as goal
 

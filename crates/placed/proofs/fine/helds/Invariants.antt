@@ -1,9 +1,6 @@
 -- The array's first i counts are those that are to be there.
 -- Assumes nothing.
-use Rattle.units.proofs.Common.{sym, ◌∙◌, ◌≡◌, ap, ◌≤◌, ◌-◌, arith, length, take, length-set, length-map, take_all, rules}
-use Rattle.placed.specs.declared.Node.{Node}
-use Rattle.placed.proofs.InOrder.{node_any, length_words, words_at}
-use Rattle.state.proofs.Lists.{length_mapped, filled}
+use Rattle.units.proofs.Common.{◌≡◌, ◌≤◌, ◌-◌, length, take}
 use Rattle.machine.proofs.Terms.{counts}
 use Rattle.placed.specs.Walked.{words_of}
 use Rattle.placed.proofs.fine.helds.Given as goal

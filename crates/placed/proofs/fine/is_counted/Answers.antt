@@ -1,6 +1,6 @@
 -- sum is the words of the first k answers, which lie one behind the other.
 -- Assumes nothing.
-use Rattle.units.proofs.Common.{sym, ◌∙◌, ◌≡◌, ap, subst, true, ℕ, ◌≤◌, ◌-◌, ◌+◌, arith, eqb, get_or, rules}
+use Rattle.units.proofs.Common.{sym, ◌∙◌, ◌≡◌, ap, subst, true, ℕ, ◌+◌, arith, eqb, get_or, rules}
 use Rattle.meaning.proofs.Terms.{full, added}
 use Rattle.placed.specs.Consistent.{ok_answer}
 use Rattle.placed.specs.Machine.{starts_of, places_of, pending_of}

@@ -1,11 +1,7 @@
 -- sum is the words of the first k answers, which lie one behind the other.
 -- Assumes nothing.
-use Rattle.units.proofs.Common.{sym, ◌∙◌, ◌≡◌, ap, subst, true, ℕ, ◌≤◌, ◌-◌, ◌+◌, arith, eqb, get_or, rules}
-use Rattle.meaning.proofs.Terms.{full, added}
-use Rattle.placed.specs.Consistent.{ok_answer}
-use Rattle.placed.specs.Machine.{starts_of, places_of, pending_of}
-use Rattle.placed.proofs.Formed.{Lies, lies}
-use Rattle.placed.proofs.Starts.{span, starts_at, span_more}
+use Rattle.units.proofs.Common.{◌≡◌, ◌≤◌, ◌-◌}
+use Rattle.placed.proofs.Starts.{span}
 use Rattle.placed.proofs.fine.is_counted.Given as goal
 
 abbrev pub invariant-loop-k : goal.invariant-loop-k

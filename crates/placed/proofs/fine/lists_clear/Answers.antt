@@ -1,7 +1,7 @@
 -- The lists are clear exactly if those from node i on are.
 -- Assumes nothing.
-use Rattle.units.proofs.Common.{sym, ◌∙◌, ◌≡◌, ⊎_elim, true, ◌≤◌, ◌-◌, arith, length, drop, get_or, eq-eqb, ne_eqb, not-false, not-true}
-use Rattle.units.proofs.Common.{rules, every, yes_cond, no_cond, yes_and, no_and}
+use Rattle.units.proofs.Common.{sym, ◌∙◌, ◌≡◌, true, arith, length, get_or, eq-eqb, ne_eqb}
+use Rattle.units.proofs.Common.{rules, yes_cond, no_cond, yes_and, no_and}
 use Rattle.placed.specs.Consistent.{list_clear}
 use Rattle.placed.proofs.InOrder.{blank}
 use Rattle.state.proofs.Lists.{length_mapped, every_at, every_end}
@@ -25,8 +25,8 @@ loop-i-preserved c =
     let l = c.loop-i in
     let e : list_clear (get_or c.args.nodes l.i blank) ≡ true =
     elim c.else-list-eq0.branch [
-      else-list-eq0-via-then-list-eq0+else-list-ne0 w ↦ yes_cond _ (eq-eqb _ _ w.if-list-eq0.true) ∙ eq-eqb _ _ w.if-list-ne0.false
-    | else-list-eq0-via-else-list-eq0 w ↦ no_cond _ (ne_eqb _ _ w.if-list-eq0.false)
+      | else-list-eq0-via-then-list-eq0+else-list-ne0 w ↦ yes_cond _ (eq-eqb _ _ w.if-list-eq0.true) ∙ eq-eqb _ _ w.if-list-ne0.false
+      | else-list-eq0-via-else-list-eq0 w ↦ no_cond _ (ne_eqb _ _ w.if-list-eq0.false)
     ] in
     (omega arith, l.invariant.1 ∙ every_at list_clear c.args.nodes l.i blank (omega arith) ∙ yes_and e)
 

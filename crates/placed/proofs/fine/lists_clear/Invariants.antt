@@ -1,10 +1,8 @@
 -- The lists are clear exactly if those from node i on are.
 -- Assumes nothing.
-use Rattle.units.proofs.Common.{sym, ◌∙◌, ◌≡◌, ⊎_elim, true, ◌≤◌, ◌-◌, arith, length, drop, get_or, eq-eqb, ne_eqb, not-false, not-true}
-use Rattle.units.proofs.Common.{rules, every, yes_cond, no_cond, yes_and, no_and}
+use Rattle.units.proofs.Common.{◌≡◌, ◌≤◌, ◌-◌, drop}
+use Rattle.units.proofs.Common.{every}
 use Rattle.placed.specs.Consistent.{list_clear}
-use Rattle.placed.proofs.InOrder.{blank}
-use Rattle.state.proofs.Lists.{length_mapped, every_at, every_end}
 use Rattle.placed.proofs.fine.lists_clear.Given as goal
 
 abbrev pub invariant-loop-i : goal.invariant-loop-i

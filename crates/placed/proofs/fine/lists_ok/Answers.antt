@@ -1,5 +1,5 @@
 -- The four tests of the code, one after the other, are the definition's conjunction.
-use Rattle.units.proofs.Common.{sym, ◌∙◌, ◌≡◌, ap, true, not-false, not-true, rules, every, yes_and, no_and}
+use Rattle.units.proofs.Common.{sym, ◌∙◌, ◌≡◌, ap, true, every, yes_and, no_and}
 use Rattle.meaning.proofs.Terms.{full}
 use Rattle.machine.proofs.Terms.{bounded}
 use Rattle.placed.specs.Consistent.{fine_lists, count_right, helds_of, lists_ok}

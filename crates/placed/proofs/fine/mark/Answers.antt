@@ -1,7 +1,6 @@
 -- The words from the place to w are marked, and no other.
 -- Assumes nothing.
-use Rattle.units.proofs.Common.{◌≡◌, ◌≤◌, ◌-◌, ◌+◌, ◌<◌, arith, length, rules}
-use Rattle.placed.specs.Marks.{Marked}
+use Rattle.units.proofs.Common.{◌≡◌, ◌-◌, ◌+◌, ◌<◌, arith, length}
 use Rattle.placed.proofs.Marks.{marked_none, marked_more}
 use Rattle.placed.proofs.fine.mark.Goals as goal
 

@@ -1,8 +1,7 @@
 -- The words from the place to w are marked, and no other.
 -- Assumes nothing.
-use Rattle.units.proofs.Common.{◌≡◌, ◌≤◌, ◌-◌, ◌+◌, ◌<◌, arith, length, rules}
+use Rattle.units.proofs.Common.{◌≤◌, ◌-◌}
 use Rattle.placed.specs.Marks.{Marked}
-use Rattle.placed.proofs.Marks.{marked_none, marked_more}
 use Rattle.placed.proofs.fine.mark.Given as goal
 
 abbrev pub invariant-loop-w : goal.invariant-loop-w
