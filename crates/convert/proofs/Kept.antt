@@ -7,7 +7,6 @@ use Rattle.demands.specs.Sound as D
 use Rattle.machine.specs.Machine as N
 use Rattle.machine.proofs.Terms.{nodes_in}
 use Rattle.machine.specs.Consistent as C
-use Rattle.state.specs.declared.node.Node.{Node}
 use Rattle.machine.proofs.Read.{length_nodes, Packed, packed_of, packed_means, packed_ok}
 use Rattle.promise.proofs.Parts as NP
 use Rattle.promise.proofs.Nodes.{numbered, handovers}

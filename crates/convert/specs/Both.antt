@@ -1,7 +1,7 @@
 -- Request E8: "From states that mean the same, any run of calls gives the same results in both layouts". What a call promises of a machine
 -- with places is what `promise` says of one without gaps, word for word; its calls need not stay as code.
 -- Assumes nothing.
-use Rattle.std.specs.Prelude.{ℕ, ◌≡◌, true, false, cond, List, [], ◌∷◌, map, eqb}
+use Rattle.std.specs.Prelude.{◌≡◌, true, false, cond, List, [], ◌∷◌, map, eqb}
 use Rattle.meaning.specs.Bench.{Bench}
 use Rattle.meaning.specs.Gateway.{Gateway}
 use Rattle.meaning.specs.Call.{Call, Said, refused, Outcome, step}

@@ -1,5 +1,5 @@
 -- After so many steps the words of the first lists stand one behind the other; at the end that is the store without gaps.
-use Rattle.units.proofs.Common.{sym, ◌∙◌, ◌≡◌, refl, ap, List, ◌++◌, ℕ, ◌≤◌, ◌-◌, ◌+◌, arith, length, drop, get_or, take, length-append}
+use Rattle.units.proofs.Common.{sym, ◌∙◌, ◌≡◌, refl, ap, List, ℕ, ◌-◌, ◌+◌, arith, length, drop, get_or, take}
 use Rattle.units.proofs.Common.{take_all, rules}
 use Rattle.placed.proofs.InOrder.{blank}
 use Rattle.state.proofs.Lists.{length_mapped}

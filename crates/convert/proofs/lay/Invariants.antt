@@ -1,12 +1,7 @@
 -- After so many steps the words of the first lists stand one behind the other; at the end that is the store without gaps.
-use Rattle.units.proofs.Common.{sym, ◌∙◌, ◌≡◌, refl, ap, List, ◌++◌, ℕ, ◌≤◌, ◌-◌, ◌+◌, arith, length, drop, get_or, take, length-append}
-use Rattle.units.proofs.Common.{take_all, rules}
-use Rattle.placed.proofs.InOrder.{blank, node_any}
-use Rattle.state.proofs.Lists.{length_mapped}
-use lib.Seq.{sets, length-sets}
-use Rattle.units.proofs.PackingLaws.{sets_append}
+use Rattle.units.proofs.Common.{◌≡◌, ◌≤◌, ◌-◌, length, take}
+use lib.Seq.{sets}
 use Rattle.convert.specs.Convert.{runs_of}
-use Rattle.convert.proofs.Loops.{run, length_run, runs_more, runs_fewer}
 use Rattle.convert.proofs.lay.Given as goal
 
 abbrev pub invariant-loop-k : goal.invariant-loop-k

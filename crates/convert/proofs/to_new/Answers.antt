@@ -5,7 +5,7 @@ use Rattle.meaning.proofs.Terms.{full}
 use Rattle.machine.specs.Machine as N
 use Rattle.state.specs.declared.node.Node.{Node}
 use lib.Seq.{sets}
-use Rattle.placed.specs.Machine.{Machine, machine}
+use Rattle.placed.specs.Machine.{machine}
 use Rattle.placed.specs.Consistent.{unfit}
 use Rattle.placed.proofs.Parts.{Parts, parts}
 use Rattle.placed.proofs.InOrder.{each_inside, each_least}

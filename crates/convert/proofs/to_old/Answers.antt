@@ -1,7 +1,7 @@
 -- A machine in order has its places added up by `with_places`, and the store stays; one that is not is refused.
-use Rattle.units.proofs.Common.{sym, ◌∙◌, ◌≡◌, ap, List, rules}
+use Rattle.units.proofs.Common.{sym, ◌∙◌, ◌≡◌, ap, List}
 use Rattle.meaning.proofs.Terms.{full}
-use Rattle.machine.proofs.Terms.{Machine, machine, unfit}
+use Rattle.machine.proofs.Terms.{machine, unfit}
 use Rattle.promise.proofs.Parts.{parts}
 use Rattle.store.proofs.Promised.{sum_inside}
 use Rattle.placed.specs.Machine as P

@@ -1,5 +1,5 @@
 -- After so many steps the place to come is where the words of the nodes passed end, as `oldNodes` counts it.
-use Rattle.units.proofs.Common.{sym, ◌∙◌, ◌≡◌, refl, ap, ⊎_elim, cond, List, ℕ, ◌≤◌, ◌-◌, ◌+◌, ◌<◌, arith, eqb, length, get_or, take}
+use Rattle.units.proofs.Common.{sym, ◌∙◌, ◌≡◌, refl, ap, cond, List, ℕ, ◌+◌, ◌<◌, arith, eqb, length, get_or, take}
 use Rattle.units.proofs.Common.{length-set, length-map, get_or-map, take_all, eq-eqb, ne_eqb, rules, yes_cond, no_cond}
 use Rattle.units.specs.declared.Words.{Words}
 use Rattle.machine.proofs.Terms.{nothing, counts}
@@ -45,8 +45,8 @@ loop-k-preserved c =
     let i = c.if-n-ne0 in
     let p : i.place ≡ cond (eqb m 0) 0 l.to =
     elim i.branch [
-      then-n-ne0 w ↦ w.place-is ∙ sym (no_cond 0 (ne_eqb m 0 w.if-n-ne0.true))
-    | else-n-ne0 w ↦ w.place-is ∙ sym (yes_cond l.to (eq-eqb m 0 w.if-n-ne0.false))
+      | then-n-ne0 w ↦ w.place-is ∙ sym (no_cond 0 (ne_eqb m 0 w.if-n-ne0.true))
+      | else-n-ne0 w ↦ w.place-is ∙ sym (yes_cond l.to (eq-eqb m 0 w.if-n-ne0.false))
     ] in (
       omega arith,
       simp length-set l.invariant.1,

@@ -1,5 +1,5 @@
 -- After so many steps the nodes passed have lost their places, and the others are still fresh; at the end that is `map`.
-use Rattle.units.proofs.Common.{sym, ◌∙◌, ◌≡◌, refl, ap, map, ◌≤◌, ◌-◌, arith, length, take, length-set, take_all, rules}
+use Rattle.units.proofs.Common.{sym, ◌∙◌, ◌≡◌, refl, ap, map, arith, length, length-set, take_all, rules}
 use Rattle.placed.proofs.InOrder.{blank, node_any}
 use Rattle.state.proofs.Lists.{length_mapped}
 use Rattle.convert.specs.Convert.{new_node}

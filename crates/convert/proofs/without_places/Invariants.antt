@@ -1,9 +1,6 @@
 -- After so many steps the nodes passed have lost their places, and the others are still fresh; at the end that is `map`.
-use Rattle.units.proofs.Common.{sym, ◌∙◌, ◌≡◌, refl, ap, map, ◌≤◌, ◌-◌, arith, length, take, length-set, take_all, rules}
-use Rattle.placed.proofs.InOrder.{blank, node_any}
-use Rattle.state.proofs.Lists.{length_mapped}
+use Rattle.units.proofs.Common.{◌≡◌, map, ◌≤◌, ◌-◌, length, take}
 use Rattle.convert.specs.Convert.{new_node}
-use Rattle.convert.proofs.Loops.{map_filled}
 use Rattle.convert.proofs.without_places.Given as goal
 
 abbrev pub invariant-loop-k : goal.invariant-loop-k
