@@ -1,4 +1,4 @@
--- After so many steps the place to come is where the words of the nodes passed end, as `oldNodes` counts it.
+-- After so many steps the place to come is where the words of the nodes passed end, as `old_nodes` counts it.
 use Rattle.units.proofs.Common.{sym, ◌∙◌, ◌≡◌, refl, ap, cond, List, ℕ, ◌+◌, ◌<◌, arith, eqb, length, get_or, take}
 use Rattle.units.proofs.Common.{length-set, length-map, get_or-map, take_all, eq-eqb, ne_eqb, rules, yes_cond, no_cond}
 use Rattle.units.specs.declared.Words.{Words}

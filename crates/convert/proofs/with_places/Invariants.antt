@@ -1,4 +1,4 @@
--- After so many steps the place to come is where the words of the nodes passed end, as `oldNodes` counts it.
+-- After so many steps the place to come is where the words of the nodes passed end, as `old_nodes` counts it.
 use Rattle.units.proofs.Common.{◌≡◌, ◌≤◌, ◌-◌, length, take}
 use Rattle.machine.proofs.Terms.{counts}
 use Rattle.lists.specs.Room.{place_of}
