@@ -1,7 +1,6 @@
 // Reading a line of worked packets. A place past the end is no fault: there is nothing there.
 ghost use Rattle.std.specs.Prelude.{◌-◌, ◌<◌, ◌≤◌, ◌≡◌, length, take, drop};
-ghost use Rattle.io.specs.Counts.{IsPrefixLen};
-ghost use Rattle.guide.specs.Scan.{stands_at};
+ghost use Rattle.guide.specs.Scan.{IsPrefixLen, stands_at};
 
 // The place after the first byte b at or after a place; the end where there is none.
 pub fn after(s: &[u8], from: usize, b: u8) -> usize

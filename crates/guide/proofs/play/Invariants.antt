@@ -1,6 +1,6 @@
 -- Each turn goes past a line, so that the loop ends.
 -- Assumes nothing.
-use Rattle.units.proofs.Common.{◌-◌, arith, length, rules}
+use Rattle.units.proofs.Common.{◌-◌, length}
 use Rattle.guide.proofs.play.Given as goal
 
 abbrev pub invariant-loop-at : goal.invariant-loop-at

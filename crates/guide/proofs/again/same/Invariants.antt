@@ -1,7 +1,7 @@
 -- What is left to compare decides, at each turn (laws of `Alike`).
 -- Assumes nothing.
-use Rattle.units.proofs.Common.{sym, ◌∙◌, refl, ◌≤◌, ◌-◌, arith, length-take, eq-eqb, ne_eqb, yes_and, no_and}
-use Rattle.guide.proofs.Alike.{Left, alike, unlike, ended, same_unlike}
+use Rattle.units.proofs.Common.{◌≤◌, ◌-◌}
+use Rattle.guide.proofs.Alike.{Left}
 use Rattle.guide.proofs.again.same.Given as goal
 
 abbrev pub invariant-loop-i : goal.invariant-loop-i

@@ -1,7 +1,6 @@
 -- What is said in turn goes on from place to place.
 -- Assumes nothing.
 use Rattle.guide.proofs.Saying.{goes_then}
-use Rattle.units.proofs.Common.{rules}
 use Rattle.guide.proofs.responses.say_error.Goals as goal
 
 pub returns : goal.returns

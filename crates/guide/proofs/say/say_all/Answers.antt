@@ -1,6 +1,6 @@
 -- There is no room, and the text is left out; or there is, for two digits of each byte.
 -- Assumes nothing.
-use Rattle.units.proofs.Common.{◌*◌, arith, length, rules}
+use Rattle.units.proofs.Common.{◌*◌, arith, length}
 use Rattle.text.proofs.Writing.{length_bytes}
 use Rattle.guide.proofs.Saying.{said, left_out}
 use Rattle.guide.proofs.say.say_all.Goals as goal

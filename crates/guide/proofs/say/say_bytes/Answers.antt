@@ -1,7 +1,6 @@
 -- A label and the bytes, one after the other.
 -- Assumes nothing.
 use Rattle.guide.proofs.Saying.{labelled}
-use Rattle.units.proofs.Common.{rules}
 use Rattle.guide.proofs.say.say_bytes.Goals as goal
 
 pub returns : goal.returns

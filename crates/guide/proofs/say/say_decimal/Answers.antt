@@ -2,7 +2,7 @@
 -- Assumes nothing.
 use Rattle.text.proofs.Writing.{decimal_short}
 use Rattle.guide.proofs.Saying.{said, left_out}
-use Rattle.units.proofs.Common.{arith, rules}
+use Rattle.units.proofs.Common.{arith}
 use Rattle.guide.proofs.say.say_decimal.Goals as goal
 
 pub returns-then-out-at : goal.returns-then-out-at

@@ -1,6 +1,6 @@
 -- There is no room, and the byte is left out; or there is, for its two digits.
 -- Assumes nothing.
-use Rattle.units.proofs.Common.{arith, rules}
+use Rattle.units.proofs.Common.{arith}
 use Rattle.text.proofs.Writing.{length_byte_hex}
 use Rattle.guide.proofs.Saying.{said, left_out}
 use Rattle.guide.proofs.say.say_hex.Goals as goal

@@ -1,7 +1,6 @@
 -- Either text, as the comparison came out.
 -- Assumes nothing.
 use Rattle.guide.specs.Say.{same_text}
-use Rattle.units.proofs.Common.{rules}
 use Rattle.guide.proofs.say.say_same.Goals as goal
 
 pub returns-then-same : goal.returns-then-same

@@ -1,6 +1,6 @@
 -- There is no room, and the number is left out; or there is, for its two digits.
 -- Assumes nothing.
-use Rattle.units.proofs.Common.{arith, rules}
+use Rattle.units.proofs.Common.{arith}
 use Rattle.text.proofs.Writing.{put_then}
 use Rattle.guide.specs.Say.{two_of}
 use Rattle.guide.proofs.Saying.{said, left_out}

@@ -1,6 +1,6 @@
 -- The place goes forward only, and no further than the end.
 -- Assumes nothing.
-use Rattle.units.proofs.Common.{◌≤◌, ◌-◌, arith, length, rules}
+use Rattle.units.proofs.Common.{◌≤◌, ◌-◌, length}
 use Rattle.guide.proofs.scan.after.Given as goal
 
 abbrev pub invariant-loop-i : goal.invariant-loop-i

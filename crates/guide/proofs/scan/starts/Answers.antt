@@ -1,6 +1,6 @@
 -- The place has the byte, or lies past the end.
 -- Assumes nothing.
-use Rattle.units.proofs.Common.{sym, le-ltb, lt-ltb, rules, yes_and, no_and}
+use Rattle.units.proofs.Common.{sym, le-ltb, lt-ltb, yes_and, no_and}
 use Rattle.guide.specs.Scan.{stands_at}
 use Rattle.guide.proofs.scan.starts.Goals as goal
 

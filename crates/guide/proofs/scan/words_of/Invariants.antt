@@ -1,6 +1,6 @@
 -- No more words are counted than the buffer holds, whose length stays.
 -- Assumes nothing.
-use Rattle.units.proofs.Common.{sym, ◌≡◌, refl, ◌≤◌, ◌-◌, arith, length, length-set, length-take-le, rules}
+use Rattle.units.proofs.Common.{◌≡◌, ◌≤◌, ◌-◌, length}
 use Rattle.guide.proofs.scan.words_of.Given as goal
 
 abbrev pub invariant-loop-n : goal.invariant-loop-n
