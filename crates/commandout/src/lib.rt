@@ -18,6 +18,7 @@ use units::word::word;
 use units::{Bytes, Form, Words};
 
 // The words of a packet with so much data, word 00 counted.
+#[tactic(auto, unfolding(meaning::specs::Command::headed_count))]
 fn headed_count(form: Form, amount: Bytes) -> Words
     ensures { result.0 ≡ headed_count form amount.0 }
 {
@@ -30,6 +31,7 @@ fn headed_count(form: Form, amount: Bytes) -> Words
 
 // 7 to 11 and 16; 0 where the packet is written. The amount and the room are lengths of lent memory: once 9 is ruled out the amount is
 // what the row says.
+#[tactic(auto, using(meaning::proofs::Chain::doubts), unfolding(meaning::specs::Command::writer_doubts))]
 fn row_refusal(row: Row, form: Form, m: Command, amount: usize, room: usize) -> u8
     ensures { result ≡ refusal (writer_doubts full row form m amount room) }
 {
@@ -55,6 +57,7 @@ fn row_refusal(row: Row, form: Form, m: Command, amount: usize, room: usize) -> 
     0
 }
 
+#[tactic(auto, unfolding(meaning::specs::Command::write_refusal))]
 fn write_refusal(form: Form, m: Command, amount: usize, room: usize) -> u8
     ensures { result ≡ write_refusal full form m amount room }
 {
@@ -77,6 +80,7 @@ fn put_body(m: Command, bytes: &[u8], out: &mut [u16])
 }
 
 // Word 00, where the form has it, and the others.
+#[tactic(auto, unfolding(meaning::specs::Command::headed_count, meaning::specs::Command::command_words, meaning::specs::Command::headed))]
 fn put_words(form: Form, m: Command, bytes: &[u8], out: &mut [u16])
     requires bytes_in_bounds { headed_count form (length bytes.now) ≤ length out.old }
     requires bytes_len_bound { length bytes.now ≤ 65535 }
@@ -94,6 +98,7 @@ fn put_words(form: Form, m: Command, bytes: &[u8], out: &mut [u16])
 }
 
 // Writes the packet to the front of out; a refusal leaves out as it was, and so stay the words past the packet.
+#[tactic(auto, unfolding(meaning::specs::Command::write_command, meaning::specs::Packet::written_count, meaning::specs::Command::command_output, meaning::specs::Packet::written_output))]
 pub fn write_command(form: Form, m: Command, bytes: &[u8], out: &mut [u16]) -> Written
     ensures value { result ≡ write_command full form m bytes.now (length out.old) }
     ensures out_after { out.new ≡ command_output full form m bytes.now out.old }

@@ -15,6 +15,7 @@ use units::word::word;
 use units::{Bytes, Form, Words};
 
 // Framed responses of node 1 have no word 00, those of every other node have it.
+#[tactic(auto, unfolding(meaning::specs::Response::bears))]
 pub fn bears(form: Form, node: u8) -> bool
     ensures { result ≡ bears form node }
 {
@@ -25,6 +26,7 @@ pub fn bears(form: Form, node: u8) -> bool
 }
 
 // The words of a packet with so much data, word 00 counted.
+#[tactic(auto, unfolding(meaning::specs::Response::shown_count))]
 fn shown_count(form: Form, node: u8, amount: Bytes) -> Words
     ensures { result.0 ≡ shown_count form node amount.0 }
 {
@@ -37,6 +39,7 @@ fn shown_count(form: Form, node: u8, amount: Bytes) -> Words
 }
 
 // 10
+#[tactic(auto, unfolding(meaning::specs::Response::amount_wrong))]
 fn amount_wrong(error: bool, amount: usize) -> bool
     ensures { result ≡ amount_wrong error amount }
 {
@@ -47,6 +50,7 @@ fn amount_wrong(error: bool, amount: usize) -> bool
 }
 
 // 3, 7, 10 and 16; 0 where the packet is written. The amount and the room are lengths of lent memory: a count only once 10 is ruled out.
+#[tactic(auto, using(meaning::proofs::Chain::doubts), unfolding(meaning::specs::Response::amount_wrong, meaning::specs::Response::respond_refusal, meaning::specs::Response::responder_doubts))]
 fn respond_refusal(form: Form, r: Response, amount: usize, room: usize) -> u8
     ensures { result ≡ respond_refusal full form r amount room }
 {
@@ -90,6 +94,7 @@ fn put_body(r: Response, bytes: &[u8], out: &mut [u16])
 }
 
 // Word 00, where there is one, and the others.
+#[tactic(auto, unfolding(meaning::specs::Response::shown_count, meaning::specs::Response::response_words, meaning::specs::Response::shown))]
 fn put_words(form: Form, r: Response, bytes: &[u8], out: &mut [u16])
     requires bytes_len_bound { length bytes.now ≤ 255 }
     requires bytes_in_bounds { shown_count form r.node (length bytes.now) ≤ length out.old }
@@ -104,6 +109,7 @@ fn put_words(form: Form, r: Response, bytes: &[u8], out: &mut [u16])
 }
 
 // Writes the packet to the front of out; a refusal leaves out as it was, and so stay the words past the packet.
+#[tactic(auto, unfolding(meaning::specs::Response::write_response, meaning::specs::Response::response_output, meaning::specs::Packet::written_count, meaning::specs::Packet::written_output))]
 pub fn write_response(form: Form, r: Response, bytes: &[u8], out: &mut [u16]) -> Written
     ensures value { result ≡ write_response full form r bytes.now (length out.old) }
     ensures out_after { out.new ≡ response_output full form r bytes.now out.old }
