@@ -1,6 +1,6 @@
 -- The loop's invariant: the first j bytes of the part are the byte. The measure is how many are to come.
-use Rattle.units.proofs.Common.{sym, ◌∙◌, ◌≡◌, refl, ap, ◌≤◌, ◌-◌, ◌+◌, ◌<◌, add-one, arith, length, get_or, set, replicate, length-set}
-use Rattle.units.proofs.Common.{length-replicate, paste, paste-suc, rules}
+use Rattle.units.proofs.Common.{sym, ◌∙◌, ◌≡◌, refl, ap, ◌+◌, ◌<◌, add-one, arith, length, get_or, set, replicate, length-set}
+use Rattle.units.proofs.Common.{length-replicate, paste, paste-suc}
 use lib.Seq.{paste-zero}
 use lib.ListN.{get_or-replicate}
 use Rattle.decided.proofs.fill_bytes.Goals as goal

@@ -1,8 +1,6 @@
 -- The loop's invariant: the first j bytes of the part are the byte. The measure is how many are to come.
-use Rattle.units.proofs.Common.{sym, ◌∙◌, ◌≡◌, refl, ap, ◌≤◌, ◌-◌, ◌+◌, ◌<◌, add-one, arith, length, get_or, set, replicate, length-set}
-use Rattle.units.proofs.Common.{length-replicate, paste, paste-suc, rules}
-use lib.Seq.{paste-zero}
-use lib.ListN.{get_or-replicate}
+use Rattle.units.proofs.Common.{◌≡◌, ◌≤◌, ◌-◌, length, replicate}
+use Rattle.units.proofs.Common.{paste}
 use Rattle.decided.proofs.fill_bytes.Given as goal
 
 abbrev pub invariant-loop-j : goal.invariant-loop-j
