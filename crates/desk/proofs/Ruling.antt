@@ -2,7 +2,7 @@
 -- Assumes nothing.
 use Rattle.units.proofs.Common.{sym, ◌∙◌, ◌≡◌, refl, ap, subst, true, not, List, [], ◌∷◌, ℕ, ◌≤◌, arith, eqb, T, length, take, every}
 use Rattle.units.proofs.Common.{bytes_of, keys, sets}
-use types.Run.{OneOf}
+use types.Run.{OneOf, hit}
 use denote.Enum.Declared.{tag_of}
 use Rattle.units.specs.declared.Words.{Words}
 use Rattle.units.specs.declared.stamp.Stamp.{Stamp}
@@ -117,6 +117,14 @@ refused_8 count s t bs K.Continuous e = refl
 refused_8 count s t bs K.ResetReader e = refl
 refused_8 count s t bs (K.Gateway k) e = absurd (keys (λ (x : ℕ). T (not (eqb x 3))) (0 ∷ 1 ∷ 2 ∷ 4 ∷ []) 3 e (tt, (tt, (tt, (tt, tt)))))
 refused_8 count s t bs K.Unknown e = refl
+
+-- what is none of the gateway's, by its kind's number
+pub others : (k : Kind) → ((g : OfGateway) → k ≡ K.Gateway g → ⊥) → OneOf (0 ∷ 1 ∷ 2 ∷ 4 ∷ []) (tag_of the_type k)
+others (K.Plaque p) h = hit (0 ∷ 1 ∷ 2 ∷ 4 ∷ []) 0 tt
+others K.Continuous h = hit (0 ∷ 1 ∷ 2 ∷ 4 ∷ []) 1 tt
+others K.ResetReader h = hit (0 ∷ 1 ∷ 2 ∷ 4 ∷ []) 2 tt
+others (K.Gateway g) h = absurd (h g refl)
+others K.Unknown h = hit (0 ∷ 1 ∷ 2 ∷ 4 ∷ []) 4 tt
 
 pub governs_refused : (count : ℕ) (name : Name) (t : Stamp) (k : Kind) (m : Command) (ws : List ℕ) {room : ℕ}
     → Governable full t k m ws name room → OneOf (0 ∷ 1 ∷ 2 ∷ 4 ∷ []) (tag_of the_type k) → {out : List ℕ}

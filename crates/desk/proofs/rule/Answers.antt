@@ -1,53 +1,56 @@
 -- By the command's kind, 11, 21, 60, 61, 79: the answer that was said is due, with the name and the sweep of the definition (`Ruling`).
-use Rattle.units.proofs.Common.{sym, refl, lit≤, length-take-le, rules}
+use Rattle.units.proofs.Common.{sym, refl, lit≤, length-take-le}
 use Rattle.answers.proofs.Saying.{good_sayable}
 use Rattle.desk.proofs.Names.{name_inside, name_short}
 use Rattle.desk.proofs.Ruling.{name_told, name_whole, renamed, nameless, restarted, cleared}
 use Rattle.desk.proofs.rule.Goals as goal
 
--- LEFT (λ c. let s = c.before.before.before.before.before.before.before in name_inside _ s.requires.in_order s.requires.wide)
+pub slice_bounds-bytes-end : goal.slice_bounds-bytes-end
+slice_bounds-bytes-end c = name_inside _ c.requires.in_order c.requires.wide
 
--- LEFT (λ c. let s = c.before.before.before.before.before.before.before.before in
---     sym (length-take-le _ _ (name_inside _ s.requires.in_order s.requires.wide)))
+pub slice_bounds-say-end : goal.slice_bounds-say-end
+slice_bounds-say-end c = sym (length-take-le _ _ (name_inside _ c.requires.in_order c.requires.wide))
 
--- LEFT (λ c κs. let s = c.before.before.before.before.before.before.before.before.before in
---     good_sayable c.before.before.good2.ensures refl s.requires.stamp _ (name_short s.args.name s.requires.wide)
---     s.requires.long)
+pub say-said-requires : goal.say-said-requires
+say-said-requires c =
+    good_sayable c.good.ensures refl c.requires.stamp _ (name_short c.args.name c.requires.wide) c.requires.long
 
--- LEFT (λ c. (name_whole _ _ c.before.before.before.before.before.requires c.before.enum-told2.given.1).0)
+pub slice_bounds-bytes-end-in-SetName : goal.slice_bounds-bytes-end-in-SetName
+slice_bounds-bytes-end-in-SetName c = (name_whole _ _ c.requires c.in-SetName.is).0
 
--- LEFT (λ c. sym (length-take-le _ _ (name_whole _ _ c.before.before.before.before.before.before.requires
---     c.before.before.enum-told2.given.1).0))
+pub slice_bounds-unpack-end : goal.slice_bounds-unpack-end
+slice_bounds-unpack-end c = sym (length-take-le _ _ (name_whole _ _ c.requires c.in-SetName.is).0)
 
--- LEFT (λ c κs. let s = c.before.before.before.before.before.before.before.before.before.before.before in
---     good_sayable c.before.before.good3.ensures refl s.requires.stamp 0 (lit≤ tt) s.requires.long)
+pub say-said-requires-in-SetName : goal.say-said-requires-in-SetName
+say-said-requires-in-SetName c = good_sayable c.good-in-SetName.ensures refl c.requires.stamp 0 (lit≤ tt) c.requires.long
 
--- LEFT (λ c κs. let s = c.before.before.before.before.before.before.before in
---     good_sayable c.before.before.good4.ensures refl s.requires.stamp 0 (lit≤ tt) s.requires.long)
+pub say-said-requires-in-Initialise : goal.say-said-requires-in-Initialise
+say-said-requires-in-Initialise c = good_sayable c.good-in-Initialise.ensures refl c.requires.stamp 0 (lit≤ tt) c.requires.long
 
--- LEFT (λ c κs. let s = c.before.before.before.before.before.before.before in
---     good_sayable c.before.before.good5.ensures refl s.requires.stamp 0 (lit≤ tt) s.requires.long)
+pub say-requires : goal.say-requires
+say-requires c = good_sayable c.good-in-ResetGateway.ensures refl c.requires.stamp 0 (lit≤ tt) c.requires.long
 
--- LEFT (λ c κs. let s = c.before.before.before.before.before.before.before in
---     good_sayable c.before.before.good6.ensures refl s.requires.stamp 0 (lit≤ tt) s.requires.long)
+pub say-requires-in-Clear : goal.say-requires-in-Clear
+say-requires-in-Clear c = good_sayable c.good-in-Clear.ensures refl c.requires.stamp 0 (lit≤ tt) c.requires.long
 
--- LEFT (λ c. let g = c.before.before.before.before.before.before in
---     name_told _ _ _ _ _ _ g.before.before.before.before.before.before.before.requires
---     g.before.before.before.enum_told.given.1 g.good2.ensures c.before.before.before.say.ensures
---     c.due.ensures)
+pub returns-in-GetName : goal.returns-in-GetName
+returns-in-GetName c =
+    name_told _ _ _ _ _ _ c.requires c.in-GetName.is c.good.ensures c.say-said.ensures c.due.ensures
 
--- LEFT (λ c. let g = c.before.before.before.before.before.before in let e = g.before.before.before.before.before in
---     renamed _ _ _ _ _ _ e.before.before.before.before.requires e.enum-told2.given.1 g.good3.ensures
---     c.before.before.before.say2.ensures g.before.before.unpack.ensures c.due2.ensures)
+pub returns-in-SetName : goal.returns-in-SetName
+returns-in-SetName c =
+    renamed _ _ _ _ _ _ c.requires c.in-SetName.is c.good-in-SetName.ensures c.say-said-in-SetName.ensures c.unpack.ensures
+    c.due-in-SetName.ensures
 
--- LEFT (λ c. let g = c.before.before.before.before.before.before.before in
---     nameless _ _ _ _ _ _ g.before.before.before.before.before.requires g.before.enum-told3.given.1 g.good4.ensures
---     c.before.before.before.before.say3.ensures c.before.no_name.ensures c.due3.ensures)
+pub returns-in-Initialise : goal.returns-in-Initialise
+returns-in-Initialise c =
+    nameless _ _ _ _ _ _ c.requires c.in-Initialise.is c.good-in-Initialise.ensures c.say-said-in-Initialise.ensures c.no_name.ensures
+    c.due-in-Initialise.ensures
 
--- LEFT (λ c. let g = c.before.before.before.before.before.before in
---     restarted _ _ _ _ _ _ g.before.before.before.before.before.requires g.before.enum-told4.given.1 g.good5.ensures
---     c.before.before.before.say4.ensures c.due4.ensures)
+pub returns-in-ResetGateway : goal.returns-in-ResetGateway
+returns-in-ResetGateway c =
+    restarted _ _ _ _ _ _ c.requires c.in-ResetGateway.is c.good-in-ResetGateway.ensures c.say.ensures c.due-in-ResetGateway.ensures
 
--- LEFT (λ c. let g = c.before.before.before.before.before.before in
---     cleared _ _ _ _ _ _ g.before.before.before.before.before.requires g.before.enum-told5.given.1 g.good6.ensures
---     c.before.before.before.say5.ensures c.due5.ensures)
+pub returns-in-Clear : goal.returns-in-Clear
+returns-in-Clear c =
+    cleared _ _ _ _ _ _ c.requires c.in-Clear.is c.good-in-Clear.ensures c.say-in-Clear.ensures c.due-in-Clear.ensures
