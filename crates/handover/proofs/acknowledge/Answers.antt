@@ -1,22 +1,22 @@
 -- No node: refused; else what the list itself makes of the number, put back at its index (`Served`).
-use Rattle.units.proofs.Common.{refl, rules}
+use Rattle.units.proofs.Common.{refl}
 use Rattle.meaning.proofs.Terms.{full, acknowledge}
-use Rattle.machine.proofs.Terms.{Machine, machine}
+use Rattle.machine.proofs.Terms.{machine}
 use Rattle.promise.proofs.Oldest.{acked_7}
 use Rattle.handover.proofs.Served.{slot_out, Found, found, refusing}
 use Rattle.handover.proofs.acknowledge.Goals as goal
 
 pub returns-then-i-ge-NODES : goal.returns-then-i-ge-NODES
 returns-then-i-ge-NODES c =
-    refusing full ((machine c.args.s c.args.store.now c.args.plaques.now)) c.requires (acknowledge _ _) 7 _ c.refused.ensures
-    (acked_7 full ((machine c.args.s c.args.store.now c.args.plaques.now)) c.requires _ _ (slot_out c.args.node c.node_slot-i.result
-    c.node_slot-i.ensures c.if-i-ge-NODES.true))
+    let m = machine c.args.s c.args.store.now c.args.plaques.now in
+    refusing full m c.requires (acknowledge _ _) 7 _ c.refused.ensures
+    (acked_7 full m c.requires _ _ (slot_out c.args.node c.node_slot-i.result c.node_slot-i.ensures c.if-i-ge-NODES.true))
 
 pub acknowledged-r-requires : goal.acknowledged-r-requires
 acknowledged-r-requires c =
-    let here : Found ((machine c.args.s c.args.store.now c.args.plaques.now)) c.args.node
-    c.node_slot-i.result = found ((machine c.args.s c.args.store.now c.args.plaques.now)) c.requires c.args.node c.node_slot-i.result c.node_slot-i.ensures c.if-i-ge-NODES.false in
-    let f = here in
+    let m = machine c.args.s c.args.store.now c.args.plaques.now in
+    let f : Found m c.args.node c.node_slot-i.result =
+    found m c.requires c.args.node c.node_slot-i.result c.node_slot-i.ensures c.if-i-ge-NODES.false in
     record {
       number = c.args.node;
       is = f.is;
@@ -29,8 +29,7 @@ acknowledged-r-requires c =
 
 pub returns : goal.returns
 returns c =
-    let here : Found ((machine c.args.s c.args.store.now c.args.plaques.now)) c.args.node
-    c.node_slot-i.result = found ((machine c.args.s c.args.store.now c.args.plaques.now)) c.requires c.args.node c.node_slot-i.result c.node_slot-i.ensures c.if-i-ge-NODES.false in
-    let f = here in
-    c.acknowledged-r.ensures c.args.node f.is f.slot c.args.s c.args.plaques.now (record { node = f.at; helds = refl })
-    c.requires
+    let m = machine c.args.s c.args.store.now c.args.plaques.now in
+    let f : Found m c.args.node c.node_slot-i.result =
+    found m c.requires c.args.node c.node_slot-i.result c.node_slot-i.ensures c.if-i-ge-NODES.false in
+    c.acknowledged-r.ensures c.args.node f.is f.slot c.args.s c.args.plaques.now (record { node = f.at; helds = refl }) c.requires

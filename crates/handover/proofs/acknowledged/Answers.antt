@@ -1,7 +1,7 @@
 -- `acknowledged` hands all back as it was where no answer waits or another number was handed out, else the list without its oldest answer
 -- (laws of `Handing`).
 -- Assumes nothing.
-use Rattle.units.proofs.Common.{arith, rules}
+use Rattle.units.proofs.Common.{arith}
 use Rattle.promise.specs.Obeyed.{said_of}
 use Rattle.handover.proofs.Handing.{slot_takeable, acks_14, acks_15, acks_0}
 use Rattle.handover.proofs.acknowledged.Goals as goal
@@ -15,21 +15,11 @@ unfolding said_of
 returns-then-number-own c n is at s memory a fit = acks_15 s _ memory fit n is at a _ (omega arith) c.if-number-own.true
 
 pub take-rest-requires : goal.take-rest-requires
-unfolding said_of
 take-rest-requires c =
     slot_takeable c.requires.state _ c.requires.memory c.requires.fit c.requires.number c.requires.is c.requires.at c.requires.slot
     (omega arith)
 
-pub taken-requires : goal.taken-requires
-unfolding said_of
-taken-requires c = search rules
-
-pub shape_of-store : goal.shape_of-store
-unfolding said_of
-shape_of-store c = search rules
-
 pub returns : goal.returns
 unfolding said_of
 returns c n is at s memory a fit =
-    acks_0 s _ memory fit n is at a _ (omega arith) c.if-number-own.false
-    c.take-rest.ensures c.taken.ensures
+    acks_0 s _ memory fit n is at a _ (omega arith) c.if-number-own.false c.take-rest.ensures c.taken.ensures
