@@ -1,5 +1,5 @@
 -- The part of the store that is copied has as many words as the answer's first word says.
-use Rattle.units.proofs.Common.{◌∙◌, ◌≡◌, ap, ℕ, ◌-◌, ◌+◌, arith, drop, get_or, take, rules}
+use Rattle.units.proofs.Common.{◌∙◌, ◌≡◌, ap, ℕ, ◌-◌, ◌+◌, arith, drop, get_or, take}
 use lib.Seq.{sets}
 use Rattle.collect.proofs.copy_answer.Goals as goal
 
