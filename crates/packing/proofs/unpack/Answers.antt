@@ -1,16 +1,10 @@
 -- After i turns the front of out holds the bytes of the first i words. There is no word more, or no room, or the first byte of a word joins
 -- them; `filled` and `put_last` say that this is all.
 -- Assumes nothing.
-use Rattle.units.proofs.Common.{sym, ◌∙◌, refl, ◌+◌, arith, length-set}
+use Rattle.units.proofs.Common.{sym, ◌∙◌, ◌+◌, arith, length-set}
 use Rattle.units.specs.Packing.{bytes_of}
 use Rattle.units.proofs.PackingLaws.{length_bytes_of, byte_at_even, byte_at_odd, put_two, filled, put_last}
 use Rattle.packing.proofs.unpack.Goals as goal
-
-pub loop-i-init : goal.loop-i-init
-loop-i-init c = (omega arith, refl, refl)
-
-pub bounds-out-at-in-loop-i : goal.bounds-out-at-in-loop-i
-bounds-out-at-in-loop-i c = simp length-set (omega arith)
 
 pub loop-i-preserved : goal.loop-i-preserved
 loop-i-preserved c =
@@ -25,9 +19,6 @@ loop-i-preserved c =
       simp length-set c.loop-i.invariant.2,
     )
 
-pub shape_of-out-then-end-out : goal.shape_of-out-then-end-out
-shape_of-out-then-end-out c = simp length-set c.loop-i.invariant.2
-
 -- the first byte of a word
 pub returns-then-end-out : goal.returns-then-end-out
 returns-then-end-out c =
@@ -38,18 +29,12 @@ returns-then-end-out c =
     (c.msb-then-end-out.ensures ∙ sym (byte_at_even a.words.now i))
     (omega arith)
 
-pub shape_of-out-else-end-out : goal.shape_of-out-else-end-out
-shape_of-out-else-end-out c = c.loop-i.invariant.2
-
 -- no more room
 pub returns-else-end-out : goal.returns-else-end-out
 returns-else-end-out c =
     let a = c.args in
     let e = length_bytes_of a.words.now in
     c.loop-i.invariant.1 ∙ filled (bytes_of a.words.now) a.out.now (c.loop-i.i + c.loop-i.i) (omega arith)
-
-pub shape_of-out-else-i-words : goal.shape_of-out-else-i-words
-shape_of-out-else-i-words c = c.loop-i.invariant.2
 
 -- no word more
 pub returns-else-i-words : goal.returns-else-i-words
