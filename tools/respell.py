@@ -15,8 +15,8 @@ NAME = r"[^\s(){}\[\],;.:@]+"
 DECLARED = re.compile(rf"^[ \t]*(?:abbrev |unfoldable )?(?:pub )?(?:record |data |ruleset |abbrev |unfoldable )?(?:pub )?({NAME})(?: [({{].*)? :(?: |$)", re.M)
 CONSTRUCTOR = re.compile(rf"^  ({NAME}) : ", re.M)
 TOKEN = re.compile(NAME)
-# the names that Rattle makes for goals, steps and invariants keep their dashes
-MADE = re.compile(r"(returns|loop|overflow|bounds|slice_bounds|offset_bounds|invariant|decreases|invariant_of|nonzero|shape_of|enum_told|in|in_ok|in_err|if|then|else)-.*|.*-(requires|spec)$")
+# the names that Rattle makes for goals and invariants keep their dashes
+MADE = re.compile(r"(returns|loop|invariant|decreases)-.*|.*-spec$")
 # where a lemma would get the name of a definition, or of another lemma, that its file speaks of
 LEMMAS = "all-of data-length handed-over is-limits is-nothing is-unknown lists-ok name-ok node-for on-plaque stamp-at visit-alone".split()
 OTHERWISE = {it: it.replace("-", "_") + "_lem" for it in LEMMAS}
@@ -35,7 +35,7 @@ def lemma_files(crate):
         for folder, dirs, files in os.walk(os.path.join(crate, top)):
             dirs.sort()
             for f in sorted(files):
-                if f.endswith(".antt") and f not in ("Proof.antt", "Answers.antt", "Invariants.antt", "Lib.antt"):
+                if f.endswith(".antt") and (f not in ("Proof.antt", "Answers.antt", "Invariants.antt", "Lib.antt") or (f == "Answers.antt" and folder == os.path.join(crate, top))):
                     yield os.path.join(folder, f)
 
 

@@ -18,35 +18,35 @@ use Rattle.asking.proofs.Queued.{Queues, queues, joins, set_none, step_none}
 use Rattle.asking.proofs.Asking.{took, hands, handed_over_lem}
 
 -- ---- at the start, and when plaques arrive
-pub none-blank : (b : Bench) → NonePending (blank b)
+pub none_blank : (b : Bench) → NonePending (blank b)
 unfolding blank fresh
-none-blank b n = refl
+none_blank b n = refl
 
 Undue : Try → Type 0
 Undue (Try.refuse k) = Unit
 Undue (Try.give r h) = Unit
 Undue (Try.due n h w) = ⊥
 
-arrive-undue : (b : Bench) (g : Gateway) (n : ℕ) (id s : List ℕ) → Undue (tried b g (arrive n id s))
+arrive_undue : (b : Bench) (g : Gateway) (n : ℕ) (id s : List ℕ) → Undue (tried b g (arrive n id s))
 unfolding tried heeded at_reader at_hub lifted Undue
-arrive-undue b g n id s = cond_all Undue (eqb (judged b (arrive n id s)) 0) _ _ (by-whom (whom b (arrive n id s))) tt
+arrive_undue b g n id s = cond_all Undue (eqb (judged b (arrive n id s)) 0) _ _ (by_whom (whom b (arrive n id s))) tt
   where
-    by-whom : (v : Whom) → Undue (heeded b g (arrive n id s) v)
-    by-whom Whom.nobody = tt
-    by-whom Whom.gateway = tt
-    by-whom (Whom.one k) = tt
+    by_whom : (v : Whom) → Undue (heeded b g (arrive n id s) v)
+    by_whom Whom.nobody = tt
+    by_whom Whom.gateway = tt
+    by_whom (Whom.one k) = tt
 
-pub none-arrived : (b : Bench) (g : Gateway) (bs : List ℕ) → NonePending g → NonePending (arrived b g bs)
+pub none_arrived : (b : Bench) (g : Gateway) (bs : List ℕ) → NonePending g → NonePending (arrived b g bs)
 unfolding arrived Undue
-none-arrived b g bs z =
+none_arrived b g bs z =
     let c : Call = arrive (plaque_node bs) (plaque_id bs) (plaque_bytes bs) in
-    step_none b g c (λ q. subst Undue (queues b g c q).due (arrive-undue b g (plaque_node bs) (plaque_id bs) (plaque_bytes bs))) z
+    step_none b g c (λ q. subst Undue (queues b g c q).due (arrive_undue b g (plaque_node bs) (plaque_id bs) (plaque_bytes bs))) z
 
 -- ---- a command that has no answer
-pub turn-none : (b : Bench) (g : Gateway) (t : Stamp) (ws : List ℕ) → ((step b g (command t Register ws)).said ≡ queued → ⊥)
+pub turn_none : (b : Bench) (g : Gateway) (t : Stamp) (ws : List ℕ) → ((step b g (command t Register ws)).said ≡ queued → ⊥)
     → NonePending g → NonePending (turn b g t ws).after
 unfolding turn heard
-turn-none b g t ws q z = by_said (step b g c).said refl
+turn_none b g t ws q z = by_said (step b g c).said refl
   where
     c : Call
     c = command t Register ws
@@ -82,9 +82,9 @@ module _ (b : Bench) (m m' : Machine) (t : Stamp) (ws : List ℕ) (fits : unfit 
         ∙ made.only none k
 
     -- its line is that of the answer that was due to it; and when that is acknowledged, none is pending again
-    pub turn-answer : ((turn b g t ws).line ≡ words_line (answer_due (tried b g c))) × NonePending (turn b g t ws).after
+    pub turn_answer : ((turn b g t ws).line ≡ words_line (answer_due (tried b g c))) × NonePending (turn b g t ws).after
     unfolding turn heard answer_due taken
-    turn-answer =
+    turn_answer =
         let k = took fits d in
         let n : ℕ = named c in
         let number : ℕ = ((meaning b m').nodes n).handover in

@@ -98,8 +98,8 @@ module _ {n : ℕ} {t : Stamp} {x : Reader} {region room : ℕ} (a : Readable fu
   id_sayable e = let l = id_bytes in sayable e (length x.plaque.id) (omega arith)
 
   -- what lies within the plaque lies within the region
-  pub in-region : {end : ℕ} → x.plaque.present ≡ true → end ≤ x.plaque.length.0 → end ≤ region
-  in-region p h = let q = plaque_bytes full x.plaque (reader_parts full x a.in_order).plaque p in let z = a.whole in omega arith
+  pub in_region : {end : ℕ} → x.plaque.present ≡ true → end ≤ x.plaque.length.0 → end ≤ region
+  in_region p h = let q = plaque_bytes full x.plaque (reader_parts full x a.in_order).plaque p in let z = a.whole in omega arith
 
 -- a part of so many bytes at most is short enough to be said
 pub part_sayable : {n : ℕ} {t : Stamp} {x : Reader} {region room : ℕ} → Readable full n t x region room → {r : Response} {echo count : ℕ}
@@ -194,7 +194,7 @@ module _ (count : ℕ) {t : Stamp} {m : Command} {ws : List ℕ} {x : Reader} {r
         let c : ℕ = carried (row_of full m.command) m in
         let z : length (take c (bytes_of ws)) ≡ min c (length (bytes_of ws)) = length-take c (bytes_of ws) in
         let one : 1 ≤ length (take c (bytes_of ws)) = a.0.ready in
-        serves_good a.0.readable.in_order w g s (in-region a.0.readable a.1 (not_past e h))
+        serves_good a.0.readable.in_order w g s (in_region a.0.readable a.1 (not_past e h))
         (on_plaque_lem count t m ws x region Fill a.1 ∙ yes_cond _ (le-leb (m.start + m.size) x.plaque.length.0 (not_past e h))
         ∙ ap (λ (b : ℕ). Local.due (reader_of x (paste region m.start (replicate m.size b) m.size))
         (answer m.node (bare count) t 0x04 []))
@@ -206,7 +206,7 @@ module _ (count : ℕ) {t : Stamp} {m : Command} {ws : List ℕ} {x : Reader} {r
         → d ≡ reply x C.Kept k → Obeys full count t (K.Plaque Read) m ws x region d out
     unfolding reader_of altered Suits tagged ranged
     read_due a h g s w =
-        let i : m.start + m.size ≤ length region = in-region a.0.readable a.1 (not_past e h) in
+        let i : m.start + m.size ≤ length region = in_region a.0.readable a.1 (not_past e h) in
         serves_good a.0.readable.in_order w g s tt
         (on_plaque_lem count t m ws x region Read a.1 ∙ yes_cond _ (le-leb (m.start + m.size) x.plaque.length.0 (not_past e h))
         ∙ ap (λ (s : List ℕ). Local.due (reader_of x region) (answer m.node (bare count) t 0x05 s))
@@ -220,7 +220,7 @@ module _ (count : ℕ) {t : Stamp} {m : Command} {ws : List ℕ} {x : Reader} {r
         let c : ℕ = carried (row_of full m.command) m in
         let z : length (take c (bytes_of ws)) ≡ min c (length (bytes_of ws)) = length-take c (bytes_of ws) in
         let came : m.size ≡ length (take c (bytes_of ws)) = a.0.ready.1 in
-        serves_good a.0.readable.in_order w g s (in-region a.0.readable a.1 (not_past e h), omega arith)
+        serves_good a.0.readable.in_order w g s (in_region a.0.readable a.1 (not_past e h), omega arith)
         (on_plaque_lem count t m ws x region Write a.1 ∙ yes_cond _ (le-leb (m.start + m.size) x.plaque.length.0 (not_past e h))
         ∙ ap (λ (s : List ℕ). Local.due (reader_of x (take m.start region ++ s ++ drop (m.start + m.size) region))
         (answer m.node (bare count) t 0x06 []))

@@ -11,7 +11,7 @@ use Rattle.demands.specs.Demand.{Bounds, kept, spared, stays, struck, line, log,
 use Rattle.demands.proofs.Local.{cond_all}
 use Rattle.demands.proofs.Aim.{Aim, aim, reader_apart}
 use Rattle.demands.proofs.Numbers.{or_right}
-use Rattle.demands.proofs.Room.{put_other, BoundsT, bounds-tried, bounds-step, bounds-fresh, fits_within}
+use Rattle.demands.proofs.Room.{put_other, BoundsT, bounds_tried, bounds_step, bounds_fresh, fits_within}
 
 -- ---- what is struck out: exactly the calls for a reader that is not i
 spared_others : (i : ℕ) (v : Whom) → spared i v ≡ false → (n : ℕ) × (v ≡ one n) × (n ≡ i → ⊥)
@@ -119,7 +119,7 @@ agree_settled b ok i g s e (Alike.due {g = h} {s = k} n w o f) x y z =
 agree_step : (b : Bench) → Sound b → (i : ℕ) (g s : Gateway) (c : Call) → Same i g s → Bounds b g → Bounds b s
     → stays b i c ≡ true → Eased b i (tried b g c) → Agree i (step b g c) (step b s c)
 unfolding step
-agree_step b ok i g s c e x y q z = agree_settled b ok i g s e (alike_tried b i g s c e q) (bounds-tried b g c x) (bounds-tried b s c y) z
+agree_step b ok i g s c e x y q z = agree_settled b ok i g s e (alike_tried b i g s c e q) (bounds_tried b g c x) (bounds_tried b s c y) z
 
 -- ---- a call for another reader
 -- a try that touches neither i nor the gateway's own node
@@ -188,7 +188,7 @@ module _ (b : Bench) (ok : Sound b) (i : ℕ) where
   unfolding kept struck log line run Ease
   alone_from [] g s e x y z = (refl, e)
   alone_from (c ∷ cs) g s e x y z =
-      by_stay (λ u f w. alone_from cs (step b g c).next u f (bounds-step b g c x) w z.1) (stays b i c) refl
+      by_stay (λ u f w. alone_from cs (step b g c).next u f (bounds_step b g c x) w z.1) (stays b i c) refl
     where
       by_stay : ((u : Gateway) → Same i (step b g c).next u → Bounds b u → Alone b i cs (step b g c).next u)
           → (t : Bool) → stays b i c ≡ t
@@ -197,13 +197,13 @@ module _ (b : Bench) (ok : Sound b) (i : ℕ) where
           × Same i (run b (step b g c).next cs) (run b s (cond t (c ∷ struck b i cs) (struck b i cs)))
       by_stay rest true q =
           let a = agree_step b ok i g s c e x y q z.0 in
-          let r = rest (step b s c).next a.next (bounds-step b s c y) in
+          let r = rest (step b s c).next a.next (bounds_step b s c y) in
           (ap₂ ◌∷◌ (same_line i c (step b g c) (step b s c) a) r.0, r.1)
       by_stay rest false q = rest s (apart_step b ok i g s c e q) y
 
   module _ (memory : ℕ → List ℕ) (cs : List Call) (z : Ease b i (fresh memory) cs) where
     alone : Alone b i cs (fresh memory) (fresh memory)
-    alone = let o = bounds-fresh b ok memory in alone_from cs (fresh memory) (fresh memory) (same_refl i (fresh memory)) o o z
+    alone = let o = bounds_fresh b ok memory in alone_from cs (fresh memory) (fresh memory) (same_refl i (fresh memory)) o o z
 
     -- From a fresh state, over any calls, if every answer due from reader i or from the gateway's own node is within its node's share,
     -- then the run's log without the lines of the calls for other readers is the log of the run without those calls:

@@ -126,7 +126,7 @@ pub responder_rise : (b : Bench) (f : Form) (r : Response) (bytes room : ℕ) �
 unfolding rise numbers doubts responder_doubts
 responder_rise b f r bytes room = refl
 
--- a response being read: the paper's order; with `refusal-first`, the first of them that applies is given
+-- a response being read: the paper's order; with `first_least`, the first of them that applies is given
 pub response_order : (b : Bench) (f : Form) (ws : List ℕ)
     → once (numbers (doubts (response_doubts b f ws))) ≡ 4 ∷ 5 ∷ 6 ∷ 7 ∷ 9 ∷ 3 ∷ 10 ∷ 11 ∷ []
 unfolding once numbers doubts response_doubts origin_doubts content_doubts

@@ -18,7 +18,7 @@ use Rattle.demands.specs.Order.{Doubt, doubts, numbers, First, none, this, next,
 use Rattle.demands.proofs.Lowest.{judged_first, judged_lowest}
 use Rattle.demands.proofs.Local.{late, FineL, roomless_of, SuitsReader, SuitsHub, fine_at_reader, fine_at_hub}
 use Rattle.demands.proofs.Aim.{Aim, aim, reader_apart}
-use Rattle.demands.proofs.Room.{BoundsT, Within, bounds-tried, bounds-run, fits_within}
+use Rattle.demands.proofs.Room.{BoundsT, Within, bounds_tried, bounds_run, fits_within}
 
 -- ---- what a call says alone: 0, for nothing, or 3 to 11
 pub or_right : (s t : Bool) → t ≡ true → (s || t) ≡ true
@@ -202,9 +202,9 @@ pub never_within : (b : Bench) → Sound b → (g : Gateway) (c : Call) → Boun
 unfolding BoundsT
 never_within b ok g c i e =
     let (n, h, w, q, r) = only_no_room b ok g c e in
-    (n, h, w, q, λ le. true≢false (sym (fits_within b ok n w h (subst (BoundsT b) q (bounds-tried b g c i)) le) ∙ r))
+    (n, h, w, q, λ le. true≢false (sym (fits_within b ok n w h (subst (BoundsT b) q (bounds_tried b g c i)) le) ∙ r))
 
 pub never_within_run : (b : Bench) → Sound b → (memory : ℕ → List ℕ) (cs : List Call) (c : Call)
     → (step b (run b (fresh memory) cs) c).said ≡ refused 13
     → (n : ℕ) × (h : Gateway) × (w : List ℕ) × (tried b (run b (fresh memory) cs) c ≡ Try.due n h w) × (Within b n w h → ⊥)
-never_within_run b ok memory cs c e = never_within b ok (run b (fresh memory) cs) c (bounds-run b ok memory cs) e
+never_within_run b ok memory cs c e = never_within b ok (run b (fresh memory) cs) c (bounds_run b ok memory cs) e

@@ -82,8 +82,8 @@ unfolding charges
 charges_mono b g h le = add-le-add (total_mono b.readers (λ n. charge b (g.nodes n)) (λ n. charge b (h.nodes n)) le) (le hub)
 
 -- no node holds more than before: the bounds still hold
-pub bounds-less : (b : Bench) (g h : Gateway) → ((n : ℕ) → held (h.nodes n) ≤ held (g.nodes n)) → Bounds b g → Bounds b h
-bounds-less b g h le i = record {
+pub bounds_less : (b : Bench) (g h : Gateway) → ((n : ℕ) → held (h.nodes n) ≤ held (g.nodes n)) → Bounds b g → Bounds b h
+bounds_less b g h le i = record {
   bounded = λ n. omega (arith, le n, i.bounded n);
   stored = omega (arith, charges_mono b h g (λ n. charge_mono b (h.nodes n) (g.nodes n) (le n)), i.stored);
 }
@@ -94,9 +94,9 @@ unfolding total
 total_const zero s f h = omega arith
 total_const (suc k) s f h = omega (arith, total_const k s f h, h (suc k))
 
-pub bounds-fresh : (b : Bench) → Sound b → (memory : ℕ → List ℕ) → Bounds b (fresh memory)
+pub bounds_fresh : (b : Bench) → Sound b → (memory : ℕ → List ℕ) → Bounds b (fresh memory)
 unfolding fresh added charges charge share_of
-bounds-fresh b ok memory = record {
+bounds_fresh b ok memory = record {
   bounded = λ n. omega arith;
   stored = omega (arith, ok, total_const b.readers b.share (λ n. max b.share 0) (λ n. max-zero b.share));
 }
@@ -117,8 +117,8 @@ limit_join b n w h e =
     put_all (λ m x. (held x ≤ b.limit) ⊎ (held x ≡ held (h.nodes m))) n (joined w (h.nodes n)) h.nodes
     (inl (rw (put_same n (joined w (h.nodes n)) h.nodes) at (fits_true b n (join n w h) e).0)) (λ m. inr refl)
 
-bounds-join : (b : Bench) (n : ℕ) (w : List ℕ) (h : Gateway) → Bounds b h → fits b n (join n w h) ≡ true → Bounds b (join n w h)
-bounds-join b n w h i e = record {
+bounds_join : (b : Bench) (n : ℕ) (w : List ℕ) (h : Gateway) → Bounds b h → fits b n (join n w h) ≡ true → Bounds b (join n w h)
+bounds_join b n w h i e = record {
   bounded = λ m. elim (limit_join b n w h e m) [
     | inl le ↦ omega arith
     | inr same ↦ omega (arith, i.bounded m)
@@ -152,54 +152,54 @@ BoundsT b (Try.refuse k) = Unit
 BoundsT b (Try.give r h) = Bounds b h
 BoundsT b (Try.due n h w) = Bounds b h
 
-bounds-lifted : {A : Type 0} (b : Bench) (into : A → Gateway → Gateway) (n : ℕ) (g : Gateway) (l : Local A)
+bounds_lifted : {A : Type 0} (b : Bench) (into : A → Gateway → Gateway) (n : ℕ) (g : Gateway) (l : Local A)
     → ((a : A) → Bounds b (into a g)) → Bounds b g → BoundsT b (lifted into n g l)
 unfolding lifted BoundsT
-bounds-lifted b into n g (Local.refuse k) put i = tt
-bounds-lifted b into n g (Local.give r a) put i = put a
-bounds-lifted b into n g Local.acked put i =
-    bounds-less b g (set_node n (taken (g.nodes n)) g)
+bounds_lifted b into n g (Local.refuse k) put i = tt
+bounds_lifted b into n g (Local.give r a) put i = put a
+bounds_lifted b into n g Local.acked put i =
+    bounds_less b g (set_node n (taken (g.nodes n)) g)
     (put_all (λ m x. held x ≤ held (g.nodes m)) n (taken (g.nodes n)) g.nodes (held_taken (g.nodes n)) (λ m. le_refl _)) i
-bounds-lifted b into n g (Local.due a w) put i = put a
+bounds_lifted b into n g (Local.due a w) put i = put a
 
-pub bounds-heeded : (b : Bench) (g : Gateway) (c : Call) (v : Whom) → Bounds b g → BoundsT b (heeded b g c v)
+pub bounds_heeded : (b : Bench) (g : Gateway) (c : Call) (v : Whom) → Bounds b g → BoundsT b (heeded b g c v)
 unfolding heeded BoundsT from_desk
-bounds-heeded b g c nobody i = tt
-bounds-heeded b g c gateway i =
-    bounds-lifted b from_desk hub g _
-    (λ d. bounds-less b g (from_desk d g) (λ n. held_swept d.broom (g.nodes n)) i) i
-bounds-heeded b g c (one n) i =
-    bounds-lifted b (set_reader n) n g _
-    (λ r. bounds-less b g (set_reader n r g) (λ m. le_refl _) i) i
+bounds_heeded b g c nobody i = tt
+bounds_heeded b g c gateway i =
+    bounds_lifted b from_desk hub g _
+    (λ d. bounds_less b g (from_desk d g) (λ n. held_swept d.broom (g.nodes n)) i) i
+bounds_heeded b g c (one n) i =
+    bounds_lifted b (set_reader n) n g _
+    (λ r. bounds_less b g (set_reader n r g) (λ m. le_refl _) i) i
 
-pub bounds-tried : (b : Bench) (g : Gateway) (c : Call) → Bounds b g → BoundsT b (tried b g c)
+pub bounds_tried : (b : Bench) (g : Gateway) (c : Call) → Bounds b g → BoundsT b (tried b g c)
 unfolding tried BoundsT
-bounds-tried b g c i = cond_all (BoundsT b) (eqb (judged b c) 0) _ _ (bounds-heeded b g c (whom b c) i) tt
+bounds_tried b g c i = cond_all (BoundsT b) (eqb (judged b c) 0) _ _ (bounds_heeded b g c (whom b c) i) tt
 
-bounds-roomed : (b : Bench) (n : ℕ) (w : List ℕ) (g h : Gateway) → Bounds b g → Bounds b h
+bounds_roomed : (b : Bench) (n : ℕ) (w : List ℕ) (g h : Gateway) → Bounds b g → Bounds b h
     → (t : Bool) → fits b n (join n w h) ≡ t → Bounds b (roomed t g (join n w h)).next
 unfolding roomed
-bounds-roomed b n w g h i j true e = bounds-join b n w h j e
-bounds-roomed b n w g h i j false e = i
+bounds_roomed b n w g h i j true e = bounds_join b n w h j e
+bounds_roomed b n w g h i j false e = i
 
-bounds-settled : (b : Bench) (g : Gateway) (t : Try) → Bounds b g → BoundsT b t → Bounds b (settled b g t).next
+bounds_settled : (b : Bench) (g : Gateway) (t : Try) → Bounds b g → BoundsT b t → Bounds b (settled b g t).next
 unfolding settled BoundsT
-bounds-settled b g (Try.refuse k) i j = i
-bounds-settled b g (Try.give r h) i j = j
-bounds-settled b g (Try.due n h w) i j = bounds-roomed b n w g h i j (fits b n (join n w h)) refl
+bounds_settled b g (Try.refuse k) i j = i
+bounds_settled b g (Try.give r h) i j = j
+bounds_settled b g (Try.due n h w) i j = bounds_roomed b n w g h i j (fits b n (join n w h)) refl
 
 -- both bounds are kept by every call, and so by every run from a fresh state
-pub bounds-step : (b : Bench) (g : Gateway) (c : Call) → Bounds b g → Bounds b (step b g c).next
+pub bounds_step : (b : Bench) (g : Gateway) (c : Call) → Bounds b g → Bounds b (step b g c).next
 unfolding step
-bounds-step b g c i = bounds-settled b g (tried b g c) i (bounds-tried b g c i)
+bounds_step b g c i = bounds_settled b g (tried b g c) i (bounds_tried b g c i)
 
-bounds-from : (b : Bench) (cs : List Call) (g : Gateway) → Bounds b g → Bounds b (run b g cs)
+bounds_from : (b : Bench) (cs : List Call) (g : Gateway) → Bounds b g → Bounds b (run b g cs)
 unfolding run
-bounds-from b [] g i = i
-bounds-from b (c ∷ cs) g i = bounds-from b cs (step b g c).next (bounds-step b g c i)
+bounds_from b [] g i = i
+bounds_from b (c ∷ cs) g i = bounds_from b cs (step b g c).next (bounds_step b g c i)
 
-pub bounds-run : (b : Bench) → Sound b → (memory : ℕ → List ℕ) (cs : List Call) → Bounds b (run b (fresh memory) cs)
-bounds-run b ok memory cs = bounds-from b cs (fresh memory) (bounds-fresh b ok memory)
+pub bounds_run : (b : Bench) → Sound b → (memory : ℕ → List ℕ) (cs : List Call) → Bounds b (run b (fresh memory) cs)
+bounds_run b ok memory cs = bounds_from b cs (fresh memory) (bounds_fresh b ok memory)
 
 -- a refusal changes nothing
 unchanged_roomed : (t : Bool) (g h : Gateway) (k : ℕ) → (roomed t g h).said ≡ refused k → (roomed t g h).next ≡ g

@@ -14,7 +14,7 @@ use Rattle.meaning.specs.declared.table.Kind.TheVariants as K
 use Rattle.demands.specs.Sound.{Sound}
 use Rattle.demands.specs.Demand.{Bounds}
 use Rattle.demands.specs.Counts.{is_sweep, broom_of, broom_kind, broom_call, broom_for, Sweeps}
-use Rattle.demands.proofs.Room.{Within, BoundsT, bounds-heeded, fits_within, swept_empty}
+use Rattle.demands.proofs.Room.{Within, BoundsT, bounds_heeded, fits_within, swept_empty}
 use Rattle.demands.proofs.Counted.{Brooms, brooms_at_hub}
 use Rattle.demands.proofs.Aim.{Aim, aim, reader_apart}
 use Rattle.demands.proofs.Numbers.{who, never_nobody, judged_low, judged_given}
@@ -57,7 +57,7 @@ pub sweeping_given : (b : Bench) → Sound b → (g : Gateway) → Bounds b g �
 unfolding step tried
 sweeping_given b ok g i c e s =
     rw (eq-eqb (judged b c) 0 e)
-    (sweep_settled b ok (broom_for b c (whom b c)) g _ s (bounds-heeded b g c (whom b c) i) (sweep_heeded b ok g c (whom b c)))
+    (sweep_settled b ok (broom_for b c (whom b c)) g _ s (bounds_heeded b g c (whom b c) i) (sweep_heeded b ok g c (whom b c)))
 
 -- ---- the same by the packet's number: a 61 or a 79 in which nothing is wrong is for the gateway, and sweeps
 record Swept (k : Kind) : Type 0 where

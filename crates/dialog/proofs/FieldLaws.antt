@@ -22,8 +22,8 @@ and_end false = refl
 pub clash : {a b : Bool} → a ≡ b → a ≡ false → b ≡ true → ⊥
 clash e f t = true≢false (sym t ∙ sym e ∙ f)
 
-pub in-range : (a z n : ℕ) → within a z n ≡ true → (a ≤ n) × (n ≤ z)
-in-range a z n e = let p = and_true (leb a n) (leb n z) e in (leb-true a n p.0, leb-true n z p.1)
+pub in_range : (a z n : ℕ) → within a z n ≡ true → (a ≤ n) × (n ≤ z)
+in_range a z n e = let p = and_true (leb a n) (leb n z) e in (leb-true a n p.0, leb-true n z p.1)
 
 pub is_within : (a z n : ℕ) → a ≤ n → n ≤ z → within a z n ≡ true
 is_within a z n h k = both (le-leb a n h) (le-leb n z k)
@@ -127,5 +127,5 @@ unfolding number_ok
 of_number most f e =
     let p = and_true (within 1 10 (length f) && every is_digit f) (leb (value_of f) most) e in
     let q = and_true (within 1 10 (length f)) (every is_digit f) p.0 in
-    let r = in-range 1 10 (length f) q.0 in
+    let r = in_range 1 10 (length f) q.0 in
     record { least = r.0; short = r.1; digits = q.1; few = leb-true (value_of f) most p.1 }

@@ -6,7 +6,7 @@ use Rattle.units.proofs.Common.{eq-eqb, le-leb, eqb-true, leb-true, lt-leb, ever
 use Rattle.units.proofs.Common.{no_or, yes_and, and_true}
 use Rattle.meaning.proofs.Terms.{same}
 use Rattle.dialog.specs.Fields.{is_digit, is_hex, hex_digit, word_ok, dash, bytes_ok, pairs, bytes_of_hex}
-use Rattle.dialog.proofs.FieldLaws.{both, in-range, next}
+use Rattle.dialog.proofs.FieldLaws.{both, in_range, next}
 
 -- ---- a digit
 or_cases : (a b : Bool) → (a || b) ≡ true → (a ≡ true) ⊎ (b ≡ true)
@@ -16,8 +16,8 @@ or_cases false b e = inr e
 pub hex_cases : (c : ℕ) → is_hex c ≡ true → ((48 ≤ c) × (c ≤ 57)) ⊎ (((65 ≤ c) × (c ≤ 70)) ⊎ ((97 ≤ c) × (c ≤ 102)))
 hex_cases c e =
     ⊎_elim
-    (λ u. ⊎_elim (λ d. inl (in-range 48 57 c d)) (λ d. inr (inl (in-range 65 70 c d))) (or_cases (is_digit c) (within 65 70 c) u))
-    (λ d. inr (inr (in-range 97 102 c d)))
+    (λ u. ⊎_elim (λ d. inl (in_range 48 57 c d)) (λ d. inr (inl (in_range 65 70 c d))) (or_cases (is_digit c) (within 65 70 c) u))
+    (λ d. inr (inr (in_range 97 102 c d)))
     (or_cases (is_digit c || within 65 70 c) (within 97 102 c) e)
 
 pub digit_low : (c : ℕ) → c ≤ 57 → hex_digit c ≡ c - 48

@@ -253,10 +253,10 @@ Kept (call (collect f n k)) = k ≡ 135
 Kept (call (acknowledge n h)) = Unit {0}
 Kept (look first count) = (count ≤ 128) × (first + count ≤ 4096)
 
-if-said : (ok : Bool) (c : Call) → (ok ≡ true → Kept (call c)) → Kept (saying ok c)
+if_said : (ok : Bool) (c : Call) → (ok ≡ true → Kept (call c)) → Kept (saying ok c)
 unfolding Kept
-if-said true c h = h refl
-if-said false c h = tt
+if_said true c h = h refl
+if_said false c h = tt
 
 either : (t : Bool) (a b : Spoken) → Kept a → Kept b → Kept (cond t a b)
 either true a b p q = p
@@ -273,13 +273,13 @@ store_kept fs = go (store_ok fs) refl
 by_kept : (w : List ℕ) (fs : List (List ℕ)) → Kept (call_by w fs)
 unfolding Kept call_by
 by_kept w fs =
-    either (same w (ascii "command")) _ _ (if-said (command_ok fs) _ (λ e. rw (length-map (drop 6 fs) word_of) (of_command fs e).few))
-    (either (same w (ascii "check")) _ _ (if-said (check_ok fs) _ (λ e. tt))
+    either (same w (ascii "command")) _ _ (if_said (command_ok fs) _ (λ e. rw (length-map (drop 6 fs) word_of) (of_command fs e).few))
+    (either (same w (ascii "check")) _ _ (if_said (check_ok fs) _ (λ e. tt))
     (either (same w (ascii "arrive")) _ _
-    (if-said (arrive_ok fs) _ (λ e. (bytes_few 16 (field fs 1) (of_arrive fs e).id, bytes_few 2047 (field fs 2) (of_arrive fs e).bytes)))
-    (either (same w (ascii "leave")) _ _ (if-said (leave_ok fs) _ (λ e. tt))
-    (either (same w (ascii "collect")) _ _ (if-said (collect_ok fs) _ (λ e. refl))
-    (either (same w (ascii "acknowledge")) _ _ (if-said (acknowledge_ok fs) _ (λ e. tt))
+    (if_said (arrive_ok fs) _ (λ e. (bytes_few 16 (field fs 1) (of_arrive fs e).id, bytes_few 2047 (field fs 2) (of_arrive fs e).bytes)))
+    (either (same w (ascii "leave")) _ _ (if_said (leave_ok fs) _ (λ e. tt))
+    (either (same w (ascii "collect")) _ _ (if_said (collect_ok fs) _ (λ e. refl))
+    (either (same w (ascii "acknowledge")) _ _ (if_said (acknowledge_ok fs) _ (λ e. tt))
     (either (same w (ascii "store")) _ _ (store_kept fs) tt))))))
 
 pub spoken_kept : (line : List ℕ) → Kept (spoken line)

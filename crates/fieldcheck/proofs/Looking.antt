@@ -17,7 +17,7 @@ use Rattle.answers.proofs.Cuts.{cut}
 use Rattle.decided.specs.Decided.{altered, Suits, Readable, quietly, seen, Looks}
 use Rattle.decided.specs.declared.Change.TheVariants as C
 use Rattle.decided.specs.declared.Decided.{Decided}
-use Rattle.decided.proofs.Serving.{refusal, reply, serves_refused, serves_good, is_past, not_past, field, in-region, part_sayable}
+use Rattle.decided.proofs.Serving.{refusal, reply, serves_refused, serves_good, is_past, not_past, field, in_region, part_sayable}
 
 -- the reader, once its plaque is reported
 abbrev pub with_report : Reader → ℕ → Reader
@@ -108,7 +108,7 @@ module _ (count clock : ℕ) {n : ℕ} {t : Stamp} {x : Reader} {region : List �
   look_due h {r} {k} {y} g s z w =
       let start : ℕ = x.reading.start in
       let size : ℕ = x.reading.size.0 in
-      let i : start + size ≤ length region = in-region a b.here (not_past f h) in
+      let i : start + size ≤ length region = in_region a b.here (not_past f h) in
       record {
         serves = serves_good (reported_ok full x a.in_order clock b.on) (w ∙ ap (λ (y : Reader). reply y C.Kept k) z) g s tt
             (seen_at count clock n t x region b.here (mode x region b.on) ∙ no_cond _ b.new

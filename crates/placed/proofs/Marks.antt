@@ -46,17 +46,17 @@ covered store [] w = false
 covered store (q ∷ qs) w = in_answer store q w || covered store qs w
 
 module _ (store : List ℕ) where
-  in-yes : (q w : ℕ) → q ≤ w → w < q + get_or store q 0 → in_answer store q w ≡ true
+  in_yes : (q w : ℕ) → q ≤ w → w < q + get_or store q 0 → in_answer store q w ≡ true
   unfolding in_answer
-  in-yes q w a b = simp (le-leb _ _ a, lt-ltb _ _ b)
+  in_yes q w a b = simp (le-leb _ _ a, lt-ltb _ _ b)
 
-  in-below : (q w : ℕ) → w < q → in_answer store q w ≡ false
+  in_below : (q w : ℕ) → w < q → in_answer store q w ≡ false
   unfolding in_answer
-  in-below q w a = simp (lt-leb _ _ a)
+  in_below q w a = simp (lt-leb _ _ a)
 
-  in-above : (q w : ℕ) → q + get_or store q 0 ≤ w → in_answer store q w ≡ false
+  in_above : (q w : ℕ) → q + get_or store q 0 ≤ w → in_answer store q w ≡ false
   unfolding in_answer
-  in-above q w a = simp (le-ltb _ _ a, and-false)
+  in_above q w a = simp (le-ltb _ _ a, and-false)
 
   -- an answer none of whose words is covered shares no word ..
   clear_free : (qs : List ℕ) (p : ℕ) → ((w : ℕ) → p ≤ w → w < p + get_or store p 0 → covered store qs w ≡ false)
@@ -66,7 +66,7 @@ module _ (store : List ℕ) where
   clear_free (q ∷ qs) p f =
       ⊎_elim
       (λ (h : max q p < min (q + get_or store q 0) (p + get_or store p 0)).
-      absurd (apart (simp (in-yes q (max q p) (omega arith) (omega arith))) (f (max q p) (omega arith) (omega arith))))
+      absurd (apart (simp (in_yes q (max q p) (omega arith) (omega arith))) (f (max q p) (omega arith) (omega arith))))
       (λ (h : min (q + get_or store q 0) (p + get_or store p 0) ≤ max q p).
       simp (le-ltb _ _ h) (clear_free qs p (λ w a b. (or_false (in_answer store q w) (covered store qs w) (f w a b)).1)))
       (below_or _ _)
@@ -77,11 +77,11 @@ module _ (store : List ℕ) where
   clear_taken [] p w a b h = sym h
   clear_taken (q ∷ qs) p w a b h =
       ⊎_elim
-      (λ (g : w < q). simp (clear_taken qs p w a b (rw (in-below q w g) at h), and-false))
+      (λ (g : w < q). simp (clear_taken qs p w a b (rw (in_below q w g) at h), and-false))
       (λ (g : q ≤ w). ⊎_elim
       (λ (k : w < q + get_or store q 0).
       let e : max q p < min (q + get_or store q 0) (p + get_or store p 0) = omega arith in simp (lt-ltb _ _ e))
-      (λ (k : q + get_or store q 0 ≤ w). simp (clear_taken qs p w a b (rw (in-above q w k) at h), and-false))
+      (λ (k : q + get_or store q 0 ≤ w). simp (clear_taken qs p w a b (rw (in_above q w k) at h), and-false))
       (below_or w (q + get_or store q 0)))
       (below_or w q)
 
@@ -140,10 +140,10 @@ module _ (b : Bench) (size : ℕ) (store : List ℕ) (ns : List Node) where
         past = p ∷ k.past;
         long = v.long ∙ k.long;
         same = λ w a. ⊎_elim
-            (λ (g : w < p). v.below w g ∙ k.same w a ∙ simp (in-below store p w g))
+            (λ (g : w < p). v.below w g ∙ k.same w a ∙ simp (in_below store p w g))
             (λ (g : p ≤ w). ⊎_elim
-            (λ (q : w < p + get_or store p 0). v.inside w g q ∙ simp (in-yes store p w g q))
-            (λ (q : p + get_or store p 0 ≤ w). v.above w q ∙ k.same w a ∙ simp (in-above store p w q))
+            (λ (q : w < p + get_or store p 0). v.inside w g q ∙ simp (in_yes store p w g q))
+            (λ (q : p + get_or store p 0 ≤ w). v.above w q ∙ k.same w a ∙ simp (in_above store p w q))
             (below_or w (p + get_or store p 0)))
             (below_or w p);
         goes = k.goes ∙ simp (h, clear_free store k.past p (λ w a c. sym (k.same w (omega arith)) ∙ u w a c));

@@ -1,6 +1,6 @@
 -- Demand 3, and the counts of demand 2, of the code's own machines: "From a fresh state, over any calls with state and lent memory handed
 -- back unaltered". What demands proves of the meaning's runs holds of every chain of calls from a fresh machine. (Strike-out call by
--- call is `struck-chain`.)
+-- call is `struck_chain`.)
 -- Assumes nothing.
 use Rattle.units.proofs.Common.{sym, ◌∙◌, ◌≡◌, ap, List, [], ◌∷◌, ℕ, ◌≤◌, ◌+◌, ◌<◌, suc, ◌*◌, zero, ◌%◌, ℕ_discrete, arith, length, drop}
 use Rattle.units.proofs.Common.{take, ne_eqb, no_cond}
@@ -11,7 +11,7 @@ use Rattle.meaning.proofs.Terms.{judged, tried, step, run}
 use Rattle.demands.specs.Sound.{Sound, full_sound}
 use Rattle.demands.specs.Demand.{Line, struck, Same, Ease}
 use Rattle.demands.specs.Counts.{Sweeps, tally, past, unmade, Tells}
-use Rattle.demands.proofs.Room.{bounds-run}
+use Rattle.demands.proofs.Room.{bounds_run}
 use Rattle.demands.proofs.Third.{never_over, never_refused}
 use Rattle.demands.proofs.Alone.{strike_out_state}
 use Rattle.demands.proofs.Counted.{counted}
@@ -74,12 +74,12 @@ code_never_over memory bytes hs chain k =
     let e = fresh_ends memory bytes (take k hs) c in
     rw e (
       never_over (region_of full memory) (calls (take k hs)),
-      (bounds-run full full_sound (region_of full memory)
+      (bounds_run full full_sound (region_of full memory)
           (calls (take k hs))).stored,
     )
 
 -- "For 61 and 79 room is judged after emptying, so it is always there": on a consistent machine, as every machine of a chain is by
--- `chain-fit`, a 61 or a 79 in which nothing is wrong is obeyed; and on no machine at all is one refused for room
+-- `chain_fit`, a 61 or a 79 in which nothing is wrong is obeyed; and on no machine at all is one refused for room
 module _ (b : Bench) (ok : Sound b) (m : Machine) (t : Stamp) (f : Form) (ws : List ℕ) (sweeps : Sweeps f ws) where
   pub code_sweep_queued : unfit b m ≡ 0 → judged b (command t f ws) ≡ 0
       → (said : Said) (m' : Machine) → Obeyed b (command t f ws) m said m' → said ≡ queued
