@@ -56,7 +56,7 @@ overflow_add-at c =
     let here : CommandHere c.args.file.now c.loop-left.at c.in-Command.size = command_here c.args.file.now c.loop-left.at (sym c.in-Command.is ∙ c.read_command.ensures) in
     let there : CommandThere c.args.file.now c.loop-left.at c.in-Command.size.0 = command_there c.args.file.now c.loop-left.at (here) in
     let h = there in
-    record { fits = omega (arith, h.inside, c.LEFT.pre.0.short) }
+    record { fits = omega (arith, h.inside, c.requires.ready.short) }
 
 pub bytes-requires : goal.bytes-requires
 bytes-requires c =
@@ -69,7 +69,7 @@ overflow_add-at-in-loop-left c =
     let here : CommandHere c.args.file.now c.loop-left.at c.in-Command.size = command_here c.args.file.now c.loop-left.at (sym c.in-Command.is ∙ c.read_command.ensures) in
     let there : CommandThere c.args.file.now c.loop-left.at c.in-Command.size.0 = command_there c.args.file.now c.loop-left.at (here) in
     let h = there in
-    record { fits = omega (arith, h.inside, c.bytes.ensures, c.LEFT.pre.0.short) }
+    record { fits = omega (arith, h.inside, c.bytes.ensures, c.requires.ready.short) }
 
 pub put_refused-to-requires : goal.put_refused-to-requires
 put_refused-to-requires c =

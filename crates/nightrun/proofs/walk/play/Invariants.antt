@@ -16,7 +16,7 @@ use Rattle.nightrun.proofs.walk.play.Given as goal
 
 abbrev pub invariant-loop-left : goal.invariant-loop-left
 invariant-loop-left l = (length l.packet ≡ longest)
-    × Along full l.file (record { l.at = l.initial.at; l.left = l.initial.left }) (meaning full (machine l.initial.s l.initial.store l.initial.plaques)) l.initial.out l.initial.to l.out l.to l.at l.left
+    × Along full l.file l.fn.begun (meaning full (machine l.fn.opened l.fn.store l.fn.plaques)) l.fn.out l.fn.start l.out l.to l.at l.left
     (machine l.s l.store l.plaques)
 
 abbrev pub decreases-loop-left : goal.decreases-loop-left
