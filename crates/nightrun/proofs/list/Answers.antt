@@ -20,7 +20,7 @@ returns-then-not-o c =
     let put = c.put_broken.ensures in
     let from = blank_means _ (replicate full.store 0) _ (length-replicate {A = ℕ} full.store 0) c.fresh-fresh.ensures in
     listed a.file.now a.out.now _ _ c.if-out-lt-LONGEST_LISTING.false
-    (put_as (listing_broken from LEFT-place-After_open.«open».ensures (not-true _ c.if-not-o.true)) put) (omega (
+    (put_as (listing_broken from c.open-o.ensures (not-true _ c.if-not-o.true)) put) (omega (
       arith,
       put.next,
       length_broken,
@@ -30,12 +30,11 @@ returns-then-not-o c =
 pub play-requires : goal.play-requires
 play-requires c =
     let from = blank_means _ (replicate full.store 0) _ (length-replicate {A = ℕ} full.store 0) c.fresh-fresh.ensures in record {
-      ready = ready_fine from LEFT-place-After_open.«open».ensures (not-false _ c.if-not-o.false) c.put_commands-to.ensures c.if-out-lt-LONGEST_LISTING.false
-          (omega (arith, c.struct_known-1.given.1.0.1.0));
-      plaques_value = LEFT-place-After_open.«open».ensures.sound;
+      ready = ready_fine from c.open-o.ensures (not-false _ c.if-not-o.false) c.put_commands-to.ensures c.if-out-lt-LONGEST_LISTING.false (omega arith);
+      plaques_value = c.open-o.ensures.sound;
     }
 
 pub returns : goal.returns
 returns c =
     let from = blank_means _ (replicate full.store 0) _ (length-replicate {A = ℕ} full.store 0) c.fresh-fresh.ensures in
-    listed_fine from LEFT-place-After_open.«open».ensures (not-false _ c.if-not-o.false) c.put_commands-to.ensures c.if-out-lt-LONGEST_LISTING.false c.play.ensures
+    listed_fine from c.open-o.ensures (not-false _ c.if-not-o.false) c.put_commands-to.ensures c.if-out-lt-LONGEST_LISTING.false c.play.ensures
