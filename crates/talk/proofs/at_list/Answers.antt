@@ -16,4 +16,4 @@ returns-in-Acknowledge c is at s memory a fit =
     let b = c.args in
     let q = c.put_said-at.ensures in
     listed_said s b.store.now memory b.node a c.in-Acknowledge.is (c.acknowledged-r.ensures b.node is at s memory a fit) q
-    (omega (arith, q.next, said_short c.acknowledged-r.result.reply _ c.acknowledged-r.type-inv.1.1.1.1.0))
+    (omega (arith, q.next, said_short c.acknowledged-r.result.reply _ c.acknowledged-r.type_inv.1.1.1.1.0))

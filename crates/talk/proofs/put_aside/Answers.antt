@@ -21,15 +21,15 @@ lies first count store e h = subst (λ (a : Aside). Lies a store) e h
 
 pub slice_bounds-put_store-end : goal.slice_bounds-put_store-end
 slice_bounds-put_store-end c =
-    let g = c.aside-in-Look-1.given in
-    omega (arith, lies g.0.0 g.0.1.0 (length c.args.store.now) g.1 c.requires.1)
+    let l = c.in-Look in
+    omega (arith, lies l.first l.count (length c.args.store.now) l.is c.requires.1)
 
 pub put_store-requires : goal.put_store-requires
 put_store-requires c =
-    let g = c.aside-in-Look-1.given in
-    let f = g.0.0 in
-    let l = lies f g.0.1.0 (length c.args.store.now) g.1 c.requires.1 in
-    (c.requires.0, omega (arith, l.1, length-take (f + g.0.1.0 - f) (drop f c.args.store.now)))
+    let f = c.in-Look.first in
+    let k = c.in-Look.count in
+    let l = lies f k (length c.args.store.now) c.in-Look.is c.requires.1 in
+    (c.requires.0, omega (arith, l.1, length-take (f + k - f) (drop f c.args.store.now)))
 
 pub returns-in-Passed : goal.returns-in-Passed
 unfolding aside_line
@@ -46,7 +46,6 @@ returns-in-Refused c = so c.args.store.now c.in-Refused.is c.put_refused.ensures
 pub returns-in-Look : goal.returns-in-Look
 unfolding aside_line
 returns-in-Look c =
-    let g = c.aside-in-Look-1.given in
-    let l = lies g.0.0 g.0.1.0 (length c.args.store.now) g.1 c.requires.1 in
-    so c.args.store.now g.1
-    (put_as (ap store_line (part_is g.0.0 g.0.1.0 c.args.store.now l.0)) c.put_store.ensures)
+    let l = c.in-Look in
+    let lie = lies l.first l.count (length c.args.store.now) l.is c.requires.1 in
+    so c.args.store.now l.is (put_as (ap store_line (part_is l.first l.count c.args.store.now lie.0)) c.put_store.ensures)
