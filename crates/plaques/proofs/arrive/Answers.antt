@@ -1,6 +1,6 @@
 -- No reader, or an ID or bytes past their limits: refused; else the reader is stored with its plaque, and the bytes stand in its region.
-use Rattle.units.proofs.Common.{◌∙◌, ap, true, List, ℕ, ◌*◌, arith, length, get_or, paste, le-leb, lt-leb, rules, yes_and, no_and}
-use Rattle.meaning.proofs.Terms.{full, Call, arrive}
+use Rattle.units.proofs.Common.{◌∙◌, ap, true, List, ℕ, ◌*◌, arith, length, get_or, paste, le-leb, lt-leb, yes_and, no_and}
+use Rattle.meaning.proofs.Terms.{full, arrive}
 use Rattle.promise.specs.Obeyed.{said_of}
 use Rattle.promise.proofs.Parts.{parts}
 use Rattle.promise.proofs.Plaques.{arrived_7, arrived_9, arrived_10, arrived_0}

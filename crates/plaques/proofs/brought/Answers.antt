@@ -1,6 +1,6 @@
 -- `brought` hands back the reader with the plaque, whose bytes stand at the front of the reader's region (laws of `Placing`).
 -- Assumes nothing.
-use Rattle.units.proofs.Common.{◌∙◌, ap, true, List, ℕ, arith, length, rules}
+use Rattle.units.proofs.Common.{◌∙◌, ap, true, List, ℕ, arith, length}
 use Rattle.meaning.proofs.Terms.{full}
 use Rattle.promise.proofs.Tables.{reader_range}
 use Rattle.promise.proofs.Readers.{with_plaque}

@@ -1,5 +1,5 @@
 -- The loop's invariant: the first j bytes are pasted. The measure is how many are to come.
-use Rattle.units.proofs.Common.{◌∙◌, ◌≡◌, refl, ap, ℕ, ◌≤◌, ◌-◌, ◌+◌, ◌<◌, add-one, arith, length, length-set, paste, paste-suc, rules}
+use Rattle.units.proofs.Common.{◌∙◌, ◌≡◌, refl, ap, ℕ, ◌+◌, ◌<◌, add-one, arith, length, length-set, paste, paste-suc}
 use lib.Seq.{paste-zero}
 use Rattle.plaques.proofs.copy_bytes.Goals as goal
 

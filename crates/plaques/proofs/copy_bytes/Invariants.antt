@@ -1,6 +1,5 @@
 -- The loop's invariant: the first j bytes are pasted. The measure is how many are to come.
-use Rattle.units.proofs.Common.{◌∙◌, ◌≡◌, refl, ap, ℕ, ◌≤◌, ◌-◌, ◌+◌, ◌<◌, add-one, arith, length, length-set, paste, paste-suc, rules}
-use lib.Seq.{paste-zero}
+use Rattle.units.proofs.Common.{◌≡◌, ◌≤◌, ◌-◌, length, paste}
 use Rattle.plaques.proofs.copy_bytes.Given as goal
 
 abbrev pub invariant-loop-j : goal.invariant-loop-j

@@ -1,6 +1,6 @@
 -- The loop's invariant: the first j bytes are those of the ID. The measure is how many of the eight are to come.
-use Rattle.units.proofs.Common.{sym, ◌∙◌, ◌≡◌, List, ℕ, ◌≤◌, ◌-◌, add-one, arith, length, get_or, take, length-set, take_all, take-suc}
-use Rattle.units.proofs.Common.{take-suc-set, rules}
+use Rattle.units.proofs.Common.{sym, ◌∙◌, List, ℕ, add-one, arith, get_or, length-set, take_all, take-suc}
+use Rattle.units.proofs.Common.{take-suc-set}
 use Rattle.plaques.proofs.eight.Goals as goal
 
 pub loop-j-preserved : goal.loop-j-preserved

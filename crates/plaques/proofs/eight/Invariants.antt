@@ -1,6 +1,5 @@
 -- The loop's invariant: the first j bytes are those of the ID. The measure is how many of the eight are to come.
-use Rattle.units.proofs.Common.{sym, ◌∙◌, ◌≡◌, List, ℕ, ◌≤◌, ◌-◌, add-one, arith, length, get_or, take, length-set, take_all, take-suc}
-use Rattle.units.proofs.Common.{take-suc-set, rules}
+use Rattle.units.proofs.Common.{◌≡◌, ◌≤◌, ◌-◌, length, take}
 use Rattle.plaques.proofs.eight.Given as goal
 
 abbrev pub invariant-loop-j : goal.invariant-loop-j

@@ -1,5 +1,5 @@
 -- No reader, or no plaque there: refused; else the reader is stored without its plaque.
-use Rattle.units.proofs.Common.{not-false, not-true, rules}
+use Rattle.units.proofs.Common.{not-false, not-true}
 use Rattle.meaning.proofs.Terms.{full, leave}
 use Rattle.promise.specs.Obeyed.{said_of}
 use Rattle.promise.proofs.Plaques.{left_7, left_14, left_0}

@@ -1,6 +1,6 @@
 -- `left` hands all back as it was where there is no plaque, else the reader without it (laws of `Placing`).
 -- Assumes nothing.
-use Rattle.units.proofs.Common.{not-false, not-true, rules}
+use Rattle.units.proofs.Common.{not-false, not-true}
 use Rattle.plaques.proofs.Placing.{leaves_refused, leaves_done}
 use Rattle.plaques.proofs.left.Goals as goal
 
