@@ -1,6 +1,6 @@
 -- What was decided at a reader, put back into any machine that the parts are of, is the outcome that the definition settles.
 -- Assumes nothing.
-use Rattle.units.proofs.Common.{sym, ◌∙◌, ◌≡◌, refl, ap, subst, true, false, Bool, not, List, [], ◌∷◌, ◌++◌, append_assoc, append-nil, ℕ}
+use Rattle.units.proofs.Common.{sym, ◌∙◌, ◌≡◌, refl, ap, subst, true, false, Bool, List, ◌++◌, append_assoc, append-nil, ℕ}
 use Rattle.units.proofs.Common.{◌≤◌, ◌-◌, ◌+◌, ◌<◌, ◌*◌, add-zero, arith, length, drop, get_or, take, replicate, drop_of_length-le}
 use Rattle.units.proofs.Common.{length-replicate, take_all, paste, slice, set-get_or, bytes_of}
 use lib.Seq.{length-paste}

@@ -1,5 +1,5 @@
 -- No room for the answer, or refused, or queued: each is the outcome that the definition settles (`Housing`).
-use Rattle.units.proofs.Common.{sym, length-take-le, not-false, not-true, rules}
+use Rattle.units.proofs.Common.{sym, length-take-le, not-false, not-true}
 use Rattle.settle.proofs.Housing.{house_enlistable, houses_refused, houses_13, houses_queued}
 use Rattle.settle.proofs.house.Goals as goal
 

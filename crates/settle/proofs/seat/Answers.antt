@@ -1,5 +1,5 @@
 -- No room for the answer, or refused, or queued: each is the outcome that the definition settles (`Seating`).
-use Rattle.units.proofs.Common.{sym, length-take-le, not-false, not-true, rules}
+use Rattle.units.proofs.Common.{sym, length-take-le, not-false, not-true}
 use Rattle.settle.proofs.Seating.{index, seat_enlistable, seats_refused, seats_13, seats_queued}
 use Rattle.settle.proofs.seat.Goals as goal
 
