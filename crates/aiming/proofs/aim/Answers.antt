@@ -38,15 +38,6 @@ pub returns-in-Store : goal.returns-in-Store
 unfolding aimed
 returns-in-Store c = rw c.in-Store.is
 
-pub returns-in-Command : goal.returns-in-Command
-returns-in-Command c = rw c.in-Command.is c.aim_command.ensures
-
-pub returns-in-Check : goal.returns-in-Check
-returns-in-Check c = rw c.in-Check.is (c.aim_check.ensures _)
-
-pub returns-in-Arrive : goal.returns-in-Arrive
-returns-in-Arrive c = rw c.in-Arrive.is (c.aim_arrive.ensures _)
-
 pub returns-else-not-is_reader : goal.returns-else-not-is_reader
 returns-else-not-is_reader c = rw c.in-Leave.is (leave_0 _ _ (flag c.is_reader.ensures c.if-not-is_reader.false))
 

@@ -1,13 +1,10 @@
 -- `aim_command` aims a command as `judge_command` judges it (laws of `Aimed`).
 -- Assumes nothing.
-use Rattle.units.proofs.Common.{sym, ◌∙◌, take, length-take-le}
+use Rattle.units.proofs.Common.{sym, ◌∙◌, take}
 use Rattle.meaning.proofs.Terms.{full}
 use Rattle.command.proofs.Judging.{its_refusal, its_kind, its_command}
 use Rattle.aiming.proofs.Aimed.{command_stops, command_gateway, command_reader}
 use Rattle.aiming.proofs.aim_command.Goals as goal
-
-pub slice_bounds-judge_command-end : goal.slice_bounds-judge_command-end
-slice_bounds-judge_command-end c = sym (length-take-le _ _ c.requires)
 
 pub returns-then-j-ne0 : goal.returns-then-j-ne0
 returns-then-j-ne0 c =

@@ -1,14 +1,11 @@
 -- What is left of the two is the same just where the two are.
 -- Assumes nothing.
-use Rattle.units.proofs.Common.{sym, ◌∙◌, refl, arith, eq-eqb, ne_eqb, yes_and, no_and}
+use Rattle.units.proofs.Common.{sym, ◌∙◌, arith, eq-eqb, ne_eqb, yes_and, no_and}
 use Rattle.dialog.proofs.FieldLaws.{nowise, same_length, same_next, same_end}
 use Rattle.fields.proofs.is_same.Goals as goal
 
 pub returns-then-field-word : goal.returns-then-field-word
 returns-then-field-word c = sym (nowise _ (λ e. c.if-field-word.true (same_length c.args.field.now c.args.word.now e)))
-
-pub loop-i-init : goal.loop-i-init
-loop-i-init c = (omega arith, omega arith, refl)
 
 pub returns-then-field-i : goal.returns-then-field-i
 returns-then-field-i c =

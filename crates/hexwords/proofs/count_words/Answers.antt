@@ -1,15 +1,12 @@
 -- What is left is all words just where the whole is; the words so far and those that are left are all of them.
 -- Assumes nothing.
-use Rattle.units.proofs.Common.{sym, ◌∙◌, refl, ap, arith, length, every, yes_and}
+use Rattle.units.proofs.Common.{sym, ◌∙◌, ap, arith, length, every, yes_and}
 use Rattle.fields.proofs.Places.{from_past}
 use Rattle.hexwords.proofs.Words.{no_words, all_words}
 use Rattle.hexwords.proofs.Words.{word_at, first_word}
 use Rattle.dialog.specs.Fields.{word_ok}
 use Rattle.dialog.proofs.FieldLaws.{nowise, clash, every_cons, every_none}
 use Rattle.hexwords.proofs.count_words.Goals as goal
-
-pub loop-from-init : goal.loop-from-init
-loop-from-init c = (omega arith, refl, omega arith)
 
 pub returns-then-not-is_word : goal.returns-then-not-is_word
 returns-then-not-is_word c =

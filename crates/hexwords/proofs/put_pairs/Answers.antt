@@ -1,14 +1,11 @@
 -- As in `put_words`, two digits a turn.
 -- Assumes nothing.
-use Rattle.units.proofs.Common.{sym, ◌∙◌, refl, ap, ◌+◌, add-one, arith, drop, length-set, sets}
+use Rattle.units.proofs.Common.{sym, ◌∙◌, ap, ◌+◌, add-one, arith, drop, length-set, sets}
 use Rattle.dialog.specs.Fields.{is_hex, pairs}
 use Rattle.dialog.proofs.FieldLaws.{every_is}
 use Rattle.units.proofs.PackingLaws.{sets_past}
 use Rattle.dialog.proofs.HexLaws.{pairs_next, pairs_end}
 use Rattle.hexwords.proofs.put_pairs.Goals as goal
-
-pub loop-i-init : goal.loop-i-init
-loop-i-init c = (omega arith, omega arith, refl, refl)
 
 pub returns-then-field-at : goal.returns-then-field-at
 returns-then-field-at c =

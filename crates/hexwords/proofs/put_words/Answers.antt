@@ -1,6 +1,6 @@
 -- What is left, stored from where the loop stands, gives what the whole gives, stored from the front.
 -- Assumes nothing.
-use Rattle.units.proofs.Common.{sym, ◌∙◌, refl, ap, List, map, ℕ, add-one, arith, length-set, sets}
+use Rattle.units.proofs.Common.{sym, ◌∙◌, ap, List, map, ℕ, add-one, arith, length-set, sets}
 use Rattle.dialog.proofs.FieldLaws.{every_split}
 use Rattle.fields.proofs.Places.{from_past}
 use Rattle.hexwords.proofs.Words.{word_at, first_word}
@@ -8,9 +8,6 @@ use Rattle.hexwords.specs.WordsAt.{words_from}
 use Rattle.dialog.specs.Fields.{word_ok, word_of}
 use Rattle.units.proofs.PackingLaws.{sets_past}
 use Rattle.hexwords.proofs.put_words.Goals as goal
-
-pub loop-i-init : goal.loop-i-init
-loop-i-init c = (omega arith, refl, refl, c.requires)
 
 pub returns-then-line-from : goal.returns-then-line-from
 returns-then-line-from c =

@@ -1,6 +1,6 @@
 -- Each arm reads the fields after the first as the call that the first names; the buffers of the other calls are as they were.
 -- Assumes nothing.
-use Rattle.units.proofs.Common.{sym, ◌≡◌, refl, true, ◌+◌, arith, length-take-le}
+use Rattle.units.proofs.Common.{◌≡◌, refl, true, ◌+◌, arith}
 use Rattle.dialog.specs.Spoken.{passed, unreadable, spoken}
 use Rattle.dialog.proofs.SpokenLaws.{too_long, empty, comment}
 use Rattle.fields.specs.FieldsAt.{fields_from}
@@ -35,9 +35,6 @@ returns-then-line-eq35 c =
     let r = quiet_read c.args.words.now c.args.id.now c.args.bytes.now Heard.Passed true passed refl refl refl
     (comment c.args.line.now (omega arith) c.if-line-eq0.false c.if-line-eq35.true) refl in
     record { value = r.0; words_after = r.1.0; id_after = r.1.1.0; bytes_after = r.1.1.1 }
-
-pub slice_bounds-verb_of-end : goal.slice_bounds-verb_of-end
-slice_bounds-verb_of-end c = sym (length-take-le _ _ c.field_end-end.ensures.most)
 
 pub returns-in-Command : goal.returns-in-Command
 returns-in-Command c =

@@ -1,7 +1,7 @@
 -- The digits so far and what is left are the field; it is judged where it ends, or at the first byte with which it is no number.
 -- Assumes nothing.
-use Rattle.units.proofs.Common.{sym, ◌∙◌, arith, true, false}
-use Rattle.numbers.proofs.Numbers.{so_none, so_more, fits, bad_at, limit, end_at, past_at}
+use Rattle.units.proofs.Common.{sym, ◌∙◌, true, false}
+use Rattle.numbers.proofs.Numbers.{so_none, so_more, bad_at, end_at, past_at}
 use Rattle.numbers.proofs.read_number.Goals as goal
 
 pub returns-then-line-at : goal.returns-then-line-at
@@ -17,11 +17,6 @@ returns-then-not-both c =
     c.no_number-then-not-both.ensures ∙ bad_at c.loop-c.invariant _ (c.goes_on.ensures.at_in_bounds c.loop-c-test.true)
     (cc c.if-not-both.true) c.field_end.ensures
 
-pub with_digit-value-requires : goal.with_digit-value-requires
-with_digit-value-requires c =
-    let f = fits c.loop-c.invariant (cc c.if-not-both.false) in
-    (f.0, f.1, f.2)
-
 pub loop-c-preserved : goal.loop-c-preserved
 loop-c-preserved c =
     rw c.with_digit-value.ensures (so_more c.loop-c.invariant (c.goes_on.ensures.at_in_bounds c.loop-c-test.true)
@@ -31,9 +26,6 @@ pub returns-then-not-both-2 : goal.returns-then-not-both-2
 returns-then-not-both-2 c =
     c.no_number-then-not-both-2.ensures ∙ end_at c.loop-c.invariant false (sym c.both-2.ensures ∙ c.if-not-both-2.true)
     (c.goes_on.ensures.field_at c.loop-c-test.false)
-
-pub overflow_cast-result : goal.overflow_cast-result
-overflow_cast-result c = omega (arith, limit c.loop-c.invariant (sym c.both-2.ensures ∙ c.if-not-both-2.false))
 
 pub returns : goal.returns
 returns c =

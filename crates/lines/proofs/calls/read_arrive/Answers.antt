@@ -21,9 +21,6 @@ returns-then-not-n c =
     ]) in
     record { value = r.0; id_after = r.1.0; bytes_after = r.1.1 }
 
-pub field_end-end-requires : goal.field_end-end-requires
-field_end-end-requires c = c.if-line-from.false
-
 pub returns-then-line-end : goal.returns-then-line-end
 returns-then-line-end c =
     let n = node_is all_from c.read_node-n.ensures in
@@ -52,12 +49,6 @@ returns-then-not-is_bytes c =
           clash w.is_bytes-else-not-is_bytes.ensures w.if-not-is_bytes-2.true (sym (ap (bytes_ok longest_plaque) here) ∙ f.bytes)
     ]) in
     record { value = r.0; id_after = r.1.0; bytes_after = r.1.1 }
-
-pub put_bytes-named-requires : goal.put_bytes-named-requires
-put_bytes-named-requires c = sym c.is_bytes.ensures ∙ c.if-not-is_bytes.false
-
-pub put_bytes-held-requires : goal.put_bytes-held-requires
-put_bytes-held-requires c = sym c.is_bytes-else-not-is_bytes.ensures ∙ c.if-not-is_bytes-2.false
 
 pub returns : goal.returns
 unfolding heard_of id_in bytes_in

@@ -19,9 +19,6 @@ returns-then-not-n c =
       | then-not-n-via-else-not-n+then-line-from w ↦ too_few n.rest w.if-line-from.true (omega arith) f.two
     ])
 
-pub field_end-requires : goal.field_end-requires
-field_end-requires c = c.if-line-from.false
-
 pub returns-then-field_end-line : goal.returns-then-field_end-line
 returns-then-field_end-line c =
     let end = c.field_end.ensures in

@@ -23,9 +23,6 @@ returns-then-not-t c =
     ]) in
     record { value = r.0; words_after = r.1 }
 
-pub field_end-end-requires : goal.field_end-end-requires
-field_end-end-requires c = c.if-line-t.false
-
 pub returns-then-not-f : goal.returns-then-not-f
 returns-then-not-f c =
     let t = stamp_is_at all_from c.read_stamp-t.ensures in
