@@ -4,7 +4,7 @@
 use Rattle.units.proofs.Common.{sym, ◌∙◌, ◌≡◌, refl, ap, true, false, Bool, cond, ◌&&◌, List, [], ◌∷◌, ℕ, ◌≤◌, ◌-◌, ◌+◌, ◌<◌, ◌%◌}
 use Rattle.units.proofs.Common.{◌*◌, ◌^◌, suc, zero-add, arith, length, drop, get_or, take, length-drop, get_or-drop, drop-drop, ltb, lt-ltb}
 use Rattle.units.proofs.Common.{ltb-true, leb, le-leb, leb-true, every, within, yes_cond, and_true, true≢false}
-use Rattle.dialog.specs.Fields.{is_digit, decimal_from, value_of, number_ok_lem}
+use Rattle.dialog.specs.Fields.{is_digit, decimal_from, value_of, number_ok}
 use Rattle.dialog.specs.Spoken.{numbers_ok, a_stamp, field, number, stamp_from}
 use Rattle.dialog.proofs.FieldLaws.{both, nowise, and_end, in_range, is_within, ten_times, ten_digits, of_number}
 use Rattle.dialog.proofs.SpokenLaws.{numbers_enough, one_number, no_number, stamp_numbers}
@@ -13,22 +13,22 @@ use Rattle.numbers.specs.declared.NumberRead.{NumberRead}
 use Rattle.numbers.specs.declared.NodeRead.{NodeRead}
 use Rattle.numbers.specs.declared.StampRead.{StampRead}
 use Rattle.fields.specs.FieldsAt.{fields_from, FieldAt}
-use Rattle.numbers.specs.NumbersAt.{number_in, number_at, node_at_lem, stamp_at}
+use Rattle.numbers.specs.NumbersAt.{number_in, number_at, node_at, stamp_at}
 use Rattle.fields.proofs.Places.{from_past, none_left, one_more, at_other, after_field, after_past, after_rest}
 
 -- ---- a field
 module _ (most : ℕ) where
   few_in : (f : List ℕ) → (number_in most f).value ≤ most
   unfolding number_in
-  few_in f = go (number_ok_lem most f) refl
+  few_in f = go (number_ok most f) refl
     where
-      go : (t : Bool) → number_ok_lem most f ≡ t → cond t (value_of f) 0 ≤ most
+      go : (t : Bool) → number_ok most f ≡ t → cond t (value_of f) 0 ≤ most
       go true e = (of_number most f e).few
       go false e = omega arith
 
   -- no field is an empty field
   empty_in : number_in most [] ≡ record { ok = false; value = 0 }
-  unfolding number_in number_ok_lem
+  unfolding number_in number_ok
   empty_in = refl
 
   first_number : (fs : List (List ℕ)) → (number_in most (field fs 0)).ok ≡ numbers_ok (most ∷ []) fs
@@ -116,7 +116,7 @@ module _ (line : List ℕ) where
   past_at most at h = rw (from_past line at h, empty_in most, after_past line at h)
 
   pub so_none : (most at : ℕ) → at ≤ length line → SoFar line most at at 0
-  unfolding number_at number_in number_ok_lem judged
+  unfolding number_at number_in number_ok judged
   so_none most at h =
       let z : at - at ≡ 0 = omega arith in record {
         least = omega arith;
@@ -144,8 +144,8 @@ module _ (line : List ℕ) where
   few_at most at e = rw e (few_in most (field (fields_from line at) 0))
 
   pub node_at_lem : (at : ℕ) (n : NumberRead) → n ≡ number_at 255 line at
-      → record { ok = n.ok; node = n.value % 256; next = n.next } ≡ node_at_lem line at
-  unfolding node_at_lem
+      → record { ok = n.ok; node = n.value % 256; next = n.next } ≡ node_at line at
+  unfolding node_at
   node_at_lem at n e =
       let small : n.value % 256 ≡ n.value = omega (arith, few_at 255 at e) in
       rw (small, e)
@@ -187,8 +187,8 @@ module _ {line : List ℕ} {fs : List (List ℕ)} {k p : ℕ} (e : From line fs 
         rest = rest_then _ 1 e (number_rest line most p);
       })
 
-  pub node_is : {n : NodeRead} → n ≡ node_at_lem line p → NumberIs line fs 255 k n.ok n.node n.next
-  unfolding node_at_lem
+  pub node_is : {n : NodeRead} → n ≡ node_at line p → NumberIs line fs 255 k n.ok n.node n.next
+  unfolding node_at
   node_is a = rw a (number_is_at refl)
 
 module _ (fs : List (List ℕ)) where
@@ -205,11 +205,11 @@ stamp_here : (line : List ℕ) (p : ℕ) → StampIs line (fields_from line p) 0
 unfolding stamp_at
 stamp_here line p =
     let fs : List (List ℕ) = fields_from line p in
-    let m : NodeRead = node_at_lem line p in
-    let d : NodeRead = node_at_lem line m.next in
-    let h : NodeRead = node_at_lem line d.next in
-    let n : NodeRead = node_at_lem line h.next in
-    let s : NodeRead = node_at_lem line n.next in
+    let m : NodeRead = node_at line p in
+    let d : NodeRead = node_at line m.next in
+    let h : NodeRead = node_at line d.next in
+    let n : NodeRead = node_at line h.next in
+    let s : NodeRead = node_at line n.next in
     let im = node_is all_from {n = m} refl in
     let id = node_is im.rest {n = d} refl in
     let ih = node_is id.rest {n = h} refl in
@@ -237,8 +237,8 @@ stamp_is_at {line} {fs} {k} {p} e a =
     })
 
 -- as the code reads it
-pub stamp_at_lem : (line : List ℕ) (at : ℕ) (m d h n s : NodeRead) → m ≡ node_at_lem line at → d ≡ node_at_lem line m.next → h ≡ node_at_lem line d.next
-    → n ≡ node_at_lem line h.next → s ≡ node_at_lem line n.next
+pub stamp_at_lem : (line : List ℕ) (at : ℕ) (m d h n s : NodeRead) → m ≡ node_at line at → d ≡ node_at line m.next → h ≡ node_at line d.next
+    → n ≡ node_at line h.next → s ≡ node_at line n.next
     → record {
       ok = (((m.ok && d.ok) && h.ok) && n.ok) && s.ok;
       stamp = record { month = m.node; day = d.node; hour = h.node; minute = n.node; second = s.node };
