@@ -1,9 +1,9 @@
 -- A packet that is refused by what it says is refused so; one that is accepted goes to its own node, which makes of it what the step says.
-use Rattle.units.proofs.Common.{sym, ◌∙◌, rules}
+use Rattle.units.proofs.Common.{sym, ◌∙◌}
 use Rattle.meaning.proofs.Terms.{full}
 use Rattle.meaning.specs.Call as S
 use Rattle.demands.specs.Sound.{full_sound}
-use Rattle.machine.proofs.Terms.{Machine, machine, meaning}
+use Rattle.machine.proofs.Terms.{machine, meaning}
 use Rattle.promise.specs.Obeyed.{said_of}
 use Rattle.promise.proofs.Promises.{turning}
 use Rattle.promise.proofs.Steps.{step_refused}

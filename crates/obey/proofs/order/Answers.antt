@@ -1,7 +1,7 @@
 -- The reader's parts are taken out at its index and put back there: what holds of them holds of the state (`Taking`).
 use Rattle.units.proofs.Common.{refl, rules}
 use Rattle.meaning.proofs.Terms.{full}
-use Rattle.machine.proofs.Terms.{Machine, machine}
+use Rattle.machine.proofs.Terms.{machine}
 use Rattle.answers.specs.Ordered.{load_of, ordered}
 use Rattle.obey.proofs.Taking.{first, inside, seatable, seats_here}
 use Rattle.obey.proofs.order.Goals as goal

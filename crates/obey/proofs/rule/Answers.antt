@@ -1,7 +1,6 @@
 -- The gateway's own parts are taken out and put back: what holds of them holds of the state (`Taking`).
-use Rattle.units.proofs.Common.{rules}
 use Rattle.meaning.proofs.Terms.{full}
-use Rattle.machine.proofs.Terms.{Machine, machine}
+use Rattle.machine.proofs.Terms.{machine}
 use Rattle.answers.specs.Ordered.{load_of, heeding}
 use Rattle.obey.proofs.Taking.{houseable, houses_here}
 use Rattle.obey.proofs.rule.Goals as goal

@@ -1,7 +1,7 @@
 -- A wrong stamp, or no reader: refused; else what the reader's parts come to is the meaning's step (`Taking`).
 use Rattle.units.proofs.Common.{sym, ◌∙◌, rules}
 use Rattle.meaning.proofs.Terms.{full, check}
-use Rattle.machine.proofs.Terms.{Machine, machine}
+use Rattle.machine.proofs.Terms.{machine}
 use Rattle.promise.specs.Obeyed.{said_of}
 use Rattle.promise.proofs.Commands.{checked_3, checked_7}
 use Rattle.answers.specs.Ordered.{looking}
