@@ -42,7 +42,9 @@ def lemma_files(crate):
 def read(path):
     with open(path, encoding="utf-8") as f:
         text = f.read()
-    return turn(text, TURNED) if TURNED_IN.search(path) else text
+    # (where they have their new name already, the plain one is the definition's)
+    is_first = TURNED_IN.search(path) and not any(it in text for it in TURNED.values())
+    return turn(text, TURNED) if is_first else text
 
 
 IMPORTED = re.compile(r"(?:ghost |pub )*use ([^\s{]+?)\.\{([^}]*)\}")
