@@ -1,5 +1,5 @@
 -- At fault, what is lent refuses an arrival so; else the promise of its own crate is that of the call.
-use Rattle.units.proofs.Common.{sym, ◌∙◌, refl, rules}
+use Rattle.units.proofs.Common.{sym, ◌∙◌, refl}
 use Rattle.meaning.proofs.Terms.{full}
 use Rattle.promise.specs.Obeyed.{said_of}
 use Rattle.promise.proofs.Promises.{unlent, by_step}

@@ -1,6 +1,6 @@
 -- At fault, what is lent refuses the collection so; else the promise of its own crate is that of the call.
 use Rattle.gateway.proofs.Faults.{collect_unlent}
-use Rattle.units.proofs.Common.{sym, rules}
+use Rattle.units.proofs.Common.{sym}
 use Rattle.meaning.proofs.Terms.{full}
 use Rattle.gateway.proofs.collect.Goals as goal
 
