@@ -1,7 +1,7 @@
 -- `asking::hand_over` meets its contract: the words that are written are the oldest answer's, since it stands at its node's place on every
 -- machine that the parts are of; and the store and the counts are then those without it.
 -- Assumes nothing.
-use Rattle.units.proofs.Common.{◌∙◌, ◌≡◌, ap, List, ℕ, ◌-◌, ◌+◌, arith, length, drop, get_or, take, rules}
+use Rattle.units.proofs.Common.{◌∙◌, ◌≡◌, ap, List, ℕ, ◌-◌, ◌+◌, arith, length, drop, get_or, take}
 use Rattle.meaning.proofs.Terms.{full}
 use Rattle.machine.proofs.Terms.{Machine, machine}
 use Rattle.text.specs.Text.{words_line}

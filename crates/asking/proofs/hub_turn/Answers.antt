@@ -1,7 +1,7 @@
 -- `asking::hub_turn` meets its contract: what `governed` promises of the gateway's parts is the meaning's step, and the line is that of
 -- what was said: a refusal's number, or the words of the answer that waits.now at the gateway's own node.
 -- Assumes nothing.
-use Rattle.units.proofs.Common.{◌≡◌, refl, ap, List, ℕ, arith, eq-eqb, rules, yes_cond}
+use Rattle.units.proofs.Common.{◌≡◌, refl, ap, List, ℕ, arith, eq-eqb, yes_cond}
 use Rattle.meaning.proofs.Terms.{full, hub, done, quiet}
 use Rattle.demands.specs.Sound.{full_sound}
 use Rattle.machine.proofs.Terms.{Machine, machine, node_slot}

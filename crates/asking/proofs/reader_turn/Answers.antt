@@ -1,7 +1,7 @@
 -- `asking::reader_turn` meets its contract: what `obeyed` promises of the reader's parts is the meaning's step, and the line is that of
 -- what was said: a refusal's number, or the words of the answer that waits.now there.
 -- Assumes nothing.
-use Rattle.units.proofs.Common.{ap, arith, rules}
+use Rattle.units.proofs.Common.{ap, arith}
 use Rattle.meaning.proofs.Terms.{full, done, quiet}
 use Rattle.demands.specs.Sound.{full_sound}
 use Rattle.machine.proofs.Terms.{Machine, machine}
