@@ -1,5 +1,5 @@
 -- The record is whole, so the parts that the code lends are inside the file, and they are the definition's: law `arrives_at`.
-use Rattle.units.proofs.Common.{arith, rules}
+use Rattle.units.proofs.Common.{arith}
 use Rattle.hearing.proofs.Here.{PlaqueThere, plaque_there, arrives_at}
 use Rattle.hearing.proofs.arrive_at.Goals as goal
 

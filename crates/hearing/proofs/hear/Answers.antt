@@ -1,5 +1,5 @@
 -- The record's bytes are packed into the words lent, and what `judge_command` says of them is handed on: law `hears`.
-use Rattle.units.proofs.Common.{sym, arith, rules}
+use Rattle.units.proofs.Common.{sym, arith}
 use Rattle.hearing.proofs.Here.{CommandThere, command_there, packs, hears}
 use Rattle.hearing.proofs.hear.Goals as goal
 

@@ -1,5 +1,4 @@
 -- The record is whole, so its five stamp bytes stand in the file; the definition takes them at the front of what is left.
-use Rattle.units.proofs.Common.{rules}
 use Rattle.hearing.proofs.Here.{stamp_is}
 use Rattle.hearing.proofs.stamp_at.Goals as goal
 

@@ -1,7 +1,7 @@
 -- The loop's invariant: the lines from here on are the lines from the start on. The measure is how many plaques are to come.
-use Rattle.units.proofs.Common.{sym, ◌∙◌, ◌≡◌, refl, ap, List, ℕ, ◌≤◌, ◌-◌, ◌+◌, arith, length, drop, length-drop, rules}
+use Rattle.units.proofs.Common.{sym, ◌∙◌, refl, ap, List, ℕ, ◌-◌, ◌+◌, arith, drop, length-drop}
 use Rattle.meaning.proofs.Terms.{full, Gateway}
-use Rattle.machine.proofs.Terms.{machine, meaning, unfit}
+use Rattle.machine.proofs.Terms.{machine, meaning}
 use Rattle.listing.specs.Listing.{plaque_lines}
 use Rattle.runfile.proofs.Records.{PlaqueRead, plaque_read, plaque_unread, count_read, count_unread}
 use Rattle.hearing.proofs.Standing.{plaque_on, plaque_off, count_off, stands_as, stands_broken, stands_counted}

@@ -1,6 +1,6 @@
 -- A file that is too long or has no count stands for the line `broken`; any other stands for what `bring` makes of it.
-use Rattle.units.proofs.Common.{sym, ◌∙◌, List, ℕ, arith, rules}
-use Rattle.meaning.proofs.Terms.{full, Gateway}
+use Rattle.units.proofs.Common.{sym, ◌∙◌, arith}
+use Rattle.meaning.proofs.Terms.{full}
 use Rattle.machine.proofs.Terms.{machine, meaning}
 use Rattle.runfile.proofs.Records.{CountRead, count_read, count_unread}
 use Rattle.hearing.proofs.Standing.{too_long, no_plaques, begun, stands_as, stands_broken}
