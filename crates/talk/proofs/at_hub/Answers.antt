@@ -1,6 +1,6 @@
 -- What `governed` promises of an accepted packet is the meaning's step of it.
 -- Assumes nothing.
-use Rattle.units.proofs.Common.{sym, length-take-le, rules}
+use Rattle.units.proofs.Common.{sym, length-take-le}
 use Rattle.talk.proofs.Reading.{hub_needs, hub_houses}
 use Rattle.talk.proofs.at_hub.Goals as goal
 

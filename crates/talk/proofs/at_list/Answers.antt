@@ -1,7 +1,7 @@
 -- `at_list` hands the parts back as they were after a collection, and as `acknowledged` leaves them after an acknowledgement; what is said
 -- of it was written (laws of `Collecting`).
 -- Assumes nothing.
-use Rattle.units.proofs.Common.{arith, rules}
+use Rattle.units.proofs.Common.{arith}
 use Rattle.dialogout.proofs.Rooms.{said_short}
 use Rattle.talk.proofs.Collecting.{listed_kept, listed_said}
 use Rattle.talk.proofs.at_list.Goals as goal

@@ -1,6 +1,6 @@
 -- `at_reader` goes by what is asked: each function's promise is the meaning's step of the call (laws of `Reading`).
 -- Assumes nothing.
-use Rattle.units.proofs.Common.{sym, length-take-le, rules}
+use Rattle.units.proofs.Common.{sym, length-take-le}
 use Rattle.settle.proofs.Seating.{memory_long}
 use Rattle.talk.specs.Parts.{asked}
 use Rattle.talk.proofs.Reading.{asks_command, asks_check, asks_arrive, so, check_seats, order_needs, order_seats}

@@ -1,6 +1,6 @@
 -- `put_aside` goes by its case, and a look's words are a part of the store.
 -- Assumes nothing.
-use Rattle.units.proofs.Common.{sym, ◌≡◌, refl, ap, subst, List, ℕ, ◌≤◌, ◌-◌, ◌+◌, arith, length, drop, length-take, rules}
+use Rattle.units.proofs.Common.{sym, ◌≡◌, refl, ap, subst, List, ℕ, ◌≤◌, ◌-◌, ◌+◌, arith, length, drop, length-take}
 use Rattle.text.specs.Text.{Put}
 use Rattle.text.proofs.Writing.{put_as}
 use Rattle.dialog.specs.Dialog.{store_line}

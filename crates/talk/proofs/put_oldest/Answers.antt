@@ -1,6 +1,6 @@
 -- `put_oldest` says that no answer waits, or writes the words that stand at the node's place (laws of `Collecting`).
 -- Assumes nothing.
-use Rattle.units.proofs.Common.{◌≡◌, List, ℕ, ◌≤◌, ◌-◌, ◌+◌, arith, length, drop, get_or, take, length-drop, length-take, rules}
+use Rattle.units.proofs.Common.{◌≡◌, List, ℕ, ◌≤◌, ◌-◌, ◌+◌, arith, length, drop, get_or, take, length-drop, length-take}
 use Rattle.meaning.proofs.Terms.{full}
 use Rattle.machine.proofs.Terms.{machine}
 use Rattle.promise.proofs.Parts.{parts}
