@@ -1,6 +1,6 @@
 -- A listing is the line `broken`, or the line of the command count and what `play` writes; an output that could be too short stays
 -- as it is.
-use Rattle.units.proofs.Common.{ℕ, arith, replicate, length-replicate, not-false, not-true, rules}
+use Rattle.units.proofs.Common.{ℕ, arith, replicate, length-replicate, not-false, not-true}
 use Rattle.meaning.proofs.Terms.{full}
 use Rattle.text.proofs.Writing.{put_as}
 use Rattle.listingout.proofs.Rooms.{length_broken}
