@@ -1,6 +1,6 @@
 -- A fresh machine means a blank gateway, so the replies are the conversation's.
 -- Assumes nothing.
-use Rattle.units.proofs.Common.{refl, ◌≤◌, ◌*◌, arith, length, replicate, rules}
+use Rattle.units.proofs.Common.{refl, ◌≤◌, ◌*◌, arith, length, replicate}
 use Rattle.meaning.proofs.Terms.{full}
 use Rattle.dialog.specs.Dialog.{longest_answer, lines_of}
 use Rattle.blank.proofs.Blank.{blank_fit, blank_means}

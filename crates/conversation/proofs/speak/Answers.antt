@@ -1,8 +1,8 @@
 -- What is written so far and the replies to the lines to come are all replies (Conversing.antt); each way around the loop is a line played,
 -- by whom it is for (Speaking.antt).
 -- Assumes nothing.
-use Rattle.units.proofs.Common.{◌≡◌, refl, true, List, ℕ, ◌≤◌, ◌-◌, ◌+◌, arith, length, drop, take, length-take-le, sym, rules}
-use Rattle.meaning.proofs.Terms.{full, is_reader}
+use Rattle.units.proofs.Common.{◌≡◌, refl, List, ℕ, ◌≤◌, ◌-◌, ◌+◌, arith, length, drop, take}
+use Rattle.meaning.proofs.Terms.{full}
 use Rattle.machine.proofs.Terms.{Machine, machine, unfit}
 use Rattle.promise.proofs.Tables.{reader_range}
 use Rattle.obey.proofs.Taking.{seatable, houseable}
