@@ -8,6 +8,7 @@ ghost use Rattle.std.specs.Io.KnownBytes.{Appends, Consumes, IsAtEnd};
 use std::env::{Env, FillError};
 use std::io::{self, ErrorKind, Read, Write};
 use std::thread;
+use std::time::Duration;
 
 // How often a call that moved nothing is made again. (No night lasts as long; the count shows the prover that it ends.)
 const PATIENCE: u64 = u64::MAX;
@@ -47,13 +48,12 @@ pub fn fail(rt: HostRuntime, what: &[u8], error: io::Error) {
     say(rt, b"\n");
 }
 
-// Whether a call that failed is to be made again. Where a descriptor does not wait, this lets others run and tries again: it costs
-// processor time while the other side is slow, and no byte.
-fn again(error: io::Error) -> bool {
+// Whether a call that failed is to be made again. Where a descriptor does not wait, this does, for a thousandth of a second.
+fn again(rt: HostRuntime, error: io::Error) -> bool {
     match error.kind() {
         ErrorKind::Interrupted => true,
         ErrorKind::WouldBlock => {
-            thread::yield_now();
+            thread::sleep(&rt, Duration::from_millis(1));
             true
         }
         _ => false,
@@ -77,7 +77,7 @@ pub fn put_all<W: Write>(rt: HostRuntime, name: &[u8], to: &mut W, bytes: &[u8])
                 at += n;
             }
             Err(error) => {
-                if tries == 0 || !again(error) {
+                if tries == 0 || !again(rt, error) {
                     fail(rt, name, error);
                     return at;
                 }
@@ -114,7 +114,7 @@ pub fn take<R: Read>(rt: HostRuntime, name: &[u8], from: &mut R, bytes: &mut [u8
         match from.read(bytes) {
             Ok(n) => return Got { n, ok: true },
             Err(error) => {
-                if tries == 0 || !again(error) {
+                if tries == 0 || !again(rt, error) {
                     fail(rt, name, error);
                     return Got { n: 0, ok: false };
                 }

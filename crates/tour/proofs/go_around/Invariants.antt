@@ -1,6 +1,6 @@
 -- The count goes up to 65,535, and the lengths of what is lent stay.
 -- Assumes nothing.
-use Rattle.units.proofs.Common.{◌≡◌, ◌≤◌, ◌-◌, length, rules}
+use Rattle.units.proofs.Common.{◌≡◌, ◌≤◌, ◌-◌, length}
 use Rattle.tour.proofs.go_around.Given as goal
 
 abbrev pub invariant-loop-k : goal.invariant-loop-k

@@ -1,6 +1,6 @@
 -- The node goes up to 17, and the lengths of what is lent stay.
 -- Assumes nothing.
-use Rattle.units.proofs.Common.{◌≡◌, ◌≤◌, ◌-◌, length, rules}
+use Rattle.units.proofs.Common.{◌≡◌, ◌≤◌, ◌-◌, length}
 use Rattle.tour.proofs.visit_readers.Given as goal
 
 abbrev pub invariant-loop-node : goal.invariant-loop-node
