@@ -1,6 +1,6 @@
 -- A byte is written where one further on was read: both are inside.
 -- Assumes nothing.
-use Rattle.units.proofs.Common.{◌≡◌, refl, ◌≤◌, ◌-◌, arith, length, length-set, rules}
+use Rattle.units.proofs.Common.{◌≡◌, ◌≤◌, ◌-◌, length}
 use Rattle.console.proofs.keep.Given as goal
 
 abbrev pub invariant-loop-j : goal.invariant-loop-j

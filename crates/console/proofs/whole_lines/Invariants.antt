@@ -1,6 +1,6 @@
 -- From the end on, byte by byte.
 -- Assumes nothing.
-use Rattle.units.proofs.Common.{◌≤◌, arith, length}
+use Rattle.units.proofs.Common.{◌≤◌, length}
 use Rattle.console.proofs.whole_lines.Given as goal
 
 abbrev pub invariant-loop-n : goal.invariant-loop-n

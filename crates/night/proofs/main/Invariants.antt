@@ -1,5 +1,5 @@
 -- The loop goes over the arguments, whose count is at most that of the words; the measure is how many are left.
-use Rattle.units.proofs.Common.{◌≤◌, ◌-◌, rules}
+use Rattle.units.proofs.Common.{◌≤◌, ◌-◌}
 use Rattle.night.proofs.main.Given as goal
 
 abbrev pub invariant-loop-i : goal.invariant-loop-i

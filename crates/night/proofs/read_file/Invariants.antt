@@ -1,9 +1,9 @@
 -- The loop keeps the place inside the file, and each turn that adds bytes moves it on.
-use Rattle.units.proofs.Common.{sym, ◌≡◌, ◌≤◌, ◌-◌, arith, length, length-take-le, rules}
+use Rattle.units.proofs.Common.{◌≡◌, ◌≤◌, ◌-◌, length}
 use Rattle.night.proofs.read_file.Given as goal
 
 abbrev pub invariant-loop-n : goal.invariant-loop-n
-invariant-loop-n l = (length l.file ≡ length l.initial.file) × (length l.chunk ≡ 4096) × (l.n ≤ length l.file)
+invariant-loop-n g l = (length l.chunk ≡ 4096) × (l.n ≤ length l.file)
 
 abbrev pub decreases-loop-n : goal.decreases-loop-n
-decreases-loop-n l = length l.file - l.n
+decreases-loop-n g l = length l.file - l.n

@@ -1,5 +1,5 @@
 -- The array has as many bytes as it was made with, by the law of `replicate` and not by counting them.
-use Rattle.units.proofs.Common.{sym, ℕ, length-replicate, rules}
+use Rattle.units.proofs.Common.{sym, ℕ, length-replicate}
 use Rattle.listing.specs.Listing.{longest_listing}
 use Rattle.night.proofs.write_listing.Goals as goal
 
