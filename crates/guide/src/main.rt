@@ -13,7 +13,7 @@ use commands::say_of_command;
 use responses::say_of_response;
 use say::say;
 use scan::{after, part, starts, words_of};
-use streams::{fill, put};
+use streams::{fill, show};
 use units::Form;
 
 fn form_at(line: &[u8], at: usize) -> Form {
@@ -57,7 +57,7 @@ fn play_line(rt: HostRuntime, line: &[u8]) {
     }
     let mut out = [0u8; 1024];
     let n = say_line(&mut out, line);
-    put(rt, part(&out, 0, n));
+    show(rt, part(&out, 0, n));
 }
 
 fn play(rt: HostRuntime, file: &[u8]) {
@@ -71,6 +71,6 @@ fn play(rt: HostRuntime, file: &[u8]) {
 
 fn main(rt: HostRuntime) {
     let mut file = [0u8; 65536];
-    let n = fill(rt, b"standard input", &mut rt.stdin(), &mut file);
+    let n = fill(&mut rt.stdin(), &mut file);
     play(rt, &file[..n]);
 }

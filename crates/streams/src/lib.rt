@@ -8,7 +8,6 @@ ghost use Rattle.std.specs.Io.KnownBytes.{Appends, Consumes, IsAtEnd};
 use std::env::{Env, FillError};
 use std::io::{self, ErrorKind, Read, Write};
 use std::thread;
-use std::time::Duration;
 
 // How often a call that moved nothing is made again. (No night lasts as long; the count shows the prover that it ends.)
 const PATIENCE: u64 = u64::MAX;
@@ -16,6 +15,11 @@ const PATIENCE: u64 = u64::MAX;
 // Writes the bytes to standard error. Where that fails, there is nowhere to say so.
 pub fn say(rt: HostRuntime, bytes: &[u8]) {
     let _ = rt.stderr().write_all(bytes);
+}
+
+// Writes the bytes to standard output. Where that fails, the rest of them is lost, and nobody is told.
+pub fn show(rt: HostRuntime, bytes: &[u8]) {
+    let _ = rt.stdout().write_all(bytes);
 }
 
 // How much of an error's text is the system's, without the number that is added in brackets.
@@ -48,12 +52,13 @@ pub fn fail(rt: HostRuntime, what: &[u8], error: io::Error) {
     say(rt, b"\n");
 }
 
-// Whether a call that failed is to be made again. Where a descriptor does not wait, this does, for a thousandth of a second.
-fn again(rt: HostRuntime, error: io::Error) -> bool {
+// Whether a call that failed is to be made again. Where a descriptor does not wait, this lets others run and tries again: it costs
+// processor time while the other side is slow, and no byte.
+fn again(error: io::Error) -> bool {
     match error.kind() {
         ErrorKind::Interrupted => true,
         ErrorKind::WouldBlock => {
-            thread::sleep(&rt, Duration::from_millis(1));
+            thread::yield_now();
             true
         }
         _ => false,
@@ -77,7 +82,7 @@ pub fn put_all<W: Write>(rt: HostRuntime, name: &[u8], to: &mut W, bytes: &[u8])
                 at += n;
             }
             Err(error) => {
-                if tries == 0 || !again(rt, error) {
+                if tries == 0 || !again(error) {
                     fail(rt, name, error);
                     return at;
                 }
@@ -114,7 +119,7 @@ pub fn take<R: Read>(rt: HostRuntime, name: &[u8], from: &mut R, bytes: &mut [u8
         match from.read(bytes) {
             Ok(n) => return Got { n, ok: true },
             Err(error) => {
-                if tries == 0 || !again(rt, error) {
+                if tries == 0 || !again(error) {
                     fail(rt, name, error);
                     return Got { n: 0, ok: false };
                 }
@@ -124,18 +129,29 @@ pub fn take<R: Read>(rt: HostRuntime, name: &[u8], from: &mut R, bytes: &mut [u8
     }
 }
 
-// Reads to the front of what is lent until that is full, the input ends or it cannot be read, which is then said; how many bytes.
-pub fn fill<R: Read>(rt: HostRuntime, name: &[u8], from: &mut R, bytes: &mut [u8]) -> usize
+// Reads some bytes to the front of what is lent, none at the end of the input or where it cannot be read.
+fn some<R: Read>(from: &mut R, bytes: &mut [u8]) -> usize
+    ensures bound { result ≤ length bytes.new }
+    ensures read { Consumes (R.remaining from.old) (R.remaining from.new) (first result bytes.new) }
+{
+    match from.read(bytes) {
+        Ok(n) => n,
+        Err(_) => 0,
+    }
+}
+
+// Reads to the front of what is lent until that is full, the input ends or it cannot be read, which nobody is told; how many bytes.
+pub fn fill<R: Read>(from: &mut R, bytes: &mut [u8]) -> usize
     ensures bound { result ≤ length bytes.new }
     ensures read { Consumes (R.remaining from.old) (R.remaining from.new) (first result bytes.new) }
 {
     let mut at = 0;
     while at < bytes.len() {
-        let got = take(rt, name, from, &mut bytes[at..]);
-        if got.n == 0 {
+        let more = some(from, &mut bytes[at..]);
+        if more == 0 {
             return at;
         }
-        at += got.n;
+        at += more;
     }
     at
 }

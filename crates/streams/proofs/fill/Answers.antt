@@ -24,5 +24,5 @@ pub loop-at-preserved : goal.loop-at-preserved
 loop-at-preserved g c =
     let (within, consumed) = c.loop-at.invariant in
     let room = length c.loop-at.bytes - c.loop-at.at in
-    let all = joined c.loop-at.at room c.take-got.result.n c.loop-at.bytes c.take-got.new.bytes within c.take-got.ensures.bound in
-    (search rules, subst (Consumes _ _) all (Consumes-trans _ _ _ _ _ consumed c.take-got.ensures.read))
+    let all = joined c.loop-at.at room c.some-more.result c.loop-at.bytes c.some-more.new.bytes within c.some-more.ensures.bound in
+    (search rules, subst (Consumes _ _) all (Consumes-trans _ _ _ _ _ consumed c.some-more.ensures.read))
