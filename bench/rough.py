@@ -1,7 +1,7 @@
 #!/usr/bin/env python3
 """The programs in a rough hand, which no gate can try: outputs that are full, closed or slow, inputs that fail, and ./play's status.
 
-  rough.py        plays the proved programs of target/bin (by ./play, which proves them first where that is needed)
+  rough.py        plays the proved programs of crates/NAME/out (by ./play, which proves them first where that is needed)
 """
 import fcntl
 import os
@@ -30,7 +30,7 @@ def expect(what, truth):
 
 
 def program(name):
-    return [str(ROOT / 'tools' / 'x86'), str(ROOT / 'target' / 'bin' / name)]
+    return [str(ROOT / 'tools' / 'x86'), str(ROOT / 'crates' / name / 'out' / name)]
 
 
 def ran(command, content=b'', **more):
