@@ -1,6 +1,6 @@
 -- What `converse` says, as one number.
 -- Assumes nothing.
-use Rattle.units.proofs.Common.{sym, ◌∙◌, ◌≡◌, refl, ap, cond, List, ℕ, ◌*◌, leb, length, rules}
+use Rattle.units.proofs.Common.{sym, ◌∙◌, ◌≡◌, refl, ap, cond, List, ℕ, ◌*◌, leb, length}
 use Rattle.dialog.specs.Dialog.{lines_of, conversation, longest_answer}
 use Rattle.conversation.specs.Conversation.{Converses}
 use Rattle.conversation.specs.declared.Text.{Text}
@@ -21,16 +21,18 @@ pub returns-in-Written : goal.returns-in-Written
 unfolding number
 returns-in-Written c =
     let l = c.converse in
-    let a = c.args in (
-      ap number (sym c.in-Written.is) ∙ number_is a.input.now a.out.now l.new.1.0 l.ensures,
-      (l.ensures.writes, l.ensures.fits),
-    )
+    record {
+      value = ap number (sym c.in-Written.is) ∙ number_is c.args.input.now c.args.out.now l.new.out l.ensures;
+      out_after = l.ensures.writes;
+      input_in_bounds = l.ensures.fits;
+    }
 
 pub returns-in-TooShort : goal.returns-in-TooShort
 unfolding number
 returns-in-TooShort c =
     let l = c.converse in
-    let a = c.args in (
-      ap number (sym c.in-TooShort.is) ∙ number_is a.input.now a.out.now l.new.1.0 l.ensures,
-      (l.ensures.writes, l.ensures.fits),
-    )
+    record {
+      value = ap number (sym c.in-TooShort.is) ∙ number_is c.args.input.now c.args.out.now l.new.out l.ensures;
+      out_after = l.ensures.writes;
+      input_in_bounds = l.ensures.fits;
+    }

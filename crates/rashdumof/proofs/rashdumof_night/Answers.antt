@@ -1,6 +1,6 @@
 -- What `list` says, as one number.
 -- Assumes nothing.
-use Rattle.units.proofs.Common.{sym, ◌∙◌, ◌≡◌, refl, ap, cond, List, ℕ, leb, length, rules}
+use Rattle.units.proofs.Common.{sym, ◌∙◌, ◌≡◌, refl, ap, cond, List, ℕ, leb, length}
 use Rattle.listing.specs.Listing.{listing, longest_listing}
 use Rattle.nightrun.specs.Walk.{Lists}
 use Rattle.nightrun.specs.declared.Listed.{Listed}
@@ -21,16 +21,18 @@ pub returns-in-Written : goal.returns-in-Written
 unfolding number
 returns-in-Written c =
     let l = c.list in
-    let a = c.args in (
-      ap number (sym c.in-Written.is) ∙ number_is a.file.now a.out.now l.new.1.0 l.ensures,
-      (l.ensures.writes, l.ensures.fits),
-    )
+    record {
+      value = ap number (sym c.in-Written.is) ∙ number_is c.args.file.now c.args.out.now l.new.out l.ensures;
+      out_after = l.ensures.writes;
+      file_in_bounds = l.ensures.fits;
+    }
 
 pub returns-in-TooShort : goal.returns-in-TooShort
 unfolding number
 returns-in-TooShort c =
     let l = c.list in
-    let a = c.args in (
-      ap number (sym c.in-TooShort.is) ∙ number_is a.file.now a.out.now l.new.1.0 l.ensures,
-      (l.ensures.writes, l.ensures.fits),
-    )
+    record {
+      value = ap number (sym c.in-TooShort.is) ∙ number_is c.args.file.now c.args.out.now l.new.out l.ensures;
+      out_after = l.ensures.writes;
+      file_in_bounds = l.ensures.fits;
+    }
