@@ -6,11 +6,5 @@ use Rattle.acts.proofs.governed.Goals as goal
 pub govern-d-requires : goal.govern-d-requires
 govern-d-requires c = governable c.requires.0 _ _ _ _ c.requires.1 c.requires.2 (search rules)
 
-pub house-requires : goal.house-requires
-house-requires c = (
-  c.requires.0,
-  c.govern-d.ensures.settles,
-)
-
 pub returns : goal.returns
 returns c = houses c.requires.0 _ _ _ _ c.govern-d.ensures c.house.result c.house.ensures

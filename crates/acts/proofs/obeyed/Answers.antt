@@ -1,35 +1,14 @@
 -- What was decided at the reader, settled in its parts and its region, is the definition's outcome of the command (`Acting`).
 use Rattle.units.proofs.Common.{refl, rules}
-use Rattle.settle.proofs.Seating.{index, memory_long, lent_inside, queued_back, still_back}
+use Rattle.settle.proofs.Seating.{memory_long, lent_inside, queued_back, still_back}
 use Rattle.acts.proofs.Acting.{readable, suited, obeys}
 use Rattle.acts.proofs.obeyed.Goals as goal
-
-pub overflow_sub-from : goal.overflow_sub-from
-overflow_sub-from c = (index c.requires.0).0
-
-pub overflow_mul-from : goal.overflow_mul-from
-overflow_mul-from c = let i = index c.requires.0 in search rules
-
-pub overflow_add-to : goal.overflow_add-to
-overflow_add-to c = let i = index c.requires.0 in search rules
 
 pub slice_bounds-serve-end : goal.slice_bounds-serve-end
 slice_bounds-serve-end c = lent_inside _ c.requires.0.is c.args.plaques.now (memory_long c.requires.0)
 
 pub serve-d-requires : goal.serve-d-requires
 serve-d-requires c = record { readable = readable c.requires.0 c.requires.1 (search rules); ready = c.requires.2 }
-
-pub seat-r-requires : goal.seat-r-requires
-seat-r-requires c = (
-  (_, c.requires.0),
-  c.serve-d.ensures.settles,
-)
-
-pub slice_bounds-alter-end : goal.slice_bounds-alter-end
-slice_bounds-alter-end c = lent_inside _ c.requires.0.is c.args.plaques.now (memory_long c.requires.0)
-
-pub alter-requires : goal.alter-requires
-alter-requires c = c.serve-d.ensures.suits
 
 -- queued
 pub returns-in-Queued : goal.returns-in-Queued

@@ -8,7 +8,7 @@ use Rattle.text.specs.Text.{words_line}
 use Rattle.text.proofs.Writing.{put_as}
 use Rattle.promise.proofs.Parts.{parts}
 use Rattle.handover.proofs.Served.{Stands}
-use Rattle.handover.proofs.Handing.{inside, first, lies, first_is, slot_takeable, slot_taken}
+use Rattle.handover.proofs.Handing.{first, lies, first_is, slot_takeable, slot_taken}
 use Rattle.asking.proofs.hand_over.Goals as goal
 
 -- the part of the store that is lent is the answer
@@ -17,14 +17,6 @@ lent : {m : Machine} {place : ℕ} {w : List ℕ} → Stands m place w
 lent {m} {place} h =
     let e : place + get_or m.store place 0 - place ≡ get_or m.store place 0 = omega arith in
     ap (λ (k : ℕ). take k (drop place m.store)) e ∙ h.words
-
-pub place_of-place-requires : goal.place_of-place-requires
-place_of-place-requires c =
-    omega (
-      arith,
-      inside c.requires.0.state c.args.store.now c.requires.0.memory c.requires.0.fit c.requires.0.number
-          c.requires.0.is c.requires.0.at c.requires.0.slot c.requires.0.some,
-    )
 
 pub offset_bounds-store-place : goal.offset_bounds-store-place
 offset_bounds-store-place c =
@@ -40,22 +32,6 @@ bounds-store-place c =
     first w.state c.args.store.now w.memory w.fit w.number w.is w.at w.slot w.some)) = let w = c.requires.0 in
     lies w.state c.args.store.now w.memory w.fit w.number w.is w.at w.slot w.some _ c.place_of-place.ensures in
     let h = stands_here in omega (arith, h.inside, h.least)
-
-pub overflow_cast-end : goal.overflow_cast-end
-overflow_cast-end c =
-    let stands_here : Stands ((machine c.requires.0.state c.args.store.now c.requires.0.memory)) c.place_of-place.result ((let w = c.requires.0 in
-    first w.state c.args.store.now w.memory w.fit w.number w.is w.at w.slot w.some)) = let w = c.requires.0 in
-    lies w.state c.args.store.now w.memory w.fit w.number w.is w.at w.slot w.some _ c.place_of-place.ensures in
-    let h = stands_here in record { fits = omega (arith, h.says, h.most) }
-
-pub overflow_add-end : goal.overflow_add-end
-overflow_add-end c =
-    let stands_here : Stands ((machine c.requires.0.state c.args.store.now c.requires.0.memory)) c.place_of-place.result ((let w = c.requires.0 in
-    first w.state c.args.store.now w.memory w.fit w.number w.is w.at w.slot w.some)) = let w = c.requires.0 in
-    lies w.state c.args.store.now w.memory w.fit w.number w.is w.at w.slot w.some _ c.place_of-place.ensures in
-    let stored : length c.args.store.now ≡ full.store = (parts full ((machine c.requires.0.state c.args.store.now c.requires.0.memory)) c.requires.0.fit).store in
-    let h = stands_here in
-    record { fits = omega (arith, h.says, h.inside, stored) }
 
 pub offset_bounds-store-place-2 : goal.offset_bounds-store-place-2
 offset_bounds-store-place-2 c =

@@ -1,13 +1,13 @@
 -- `asking::reader_turn` meets its contract: what `obeyed` promises of the reader's parts is the meaning's step, and the line is that of
 -- what was said: a refusal's number, or the words of the answer that waits.now there.
 -- Assumes nothing.
-use Rattle.units.proofs.Common.{ap, arith}
+use Rattle.units.proofs.Common.{ap}
 use Rattle.meaning.proofs.Terms.{full, done, quiet}
 use Rattle.demands.specs.Sound.{full_sound}
 use Rattle.machine.proofs.Terms.{Machine, machine}
 use Rattle.state.specs.declared.State.{State}
 use Rattle.promise.specs.Obeyed.{said_of}
-use Rattle.promise.proofs.Tables.{reader_range, reader_slot}
+use Rattle.promise.proofs.Tables.{reader_slot}
 use Rattle.asking.proofs.Accepting.{orderly, names, steps_reader}
 use Rattle.asking.proofs.Asking.{plays_refused, plays_answered, waits_there, plays_handed, slot_seated, seated_again}
 use Rattle.asking.proofs.reader_turn.Goals as goal
@@ -19,9 +19,6 @@ obeyed-seat-requires c =
     let o = orderly c.requires.accepts.0 c.command_data-data.ensures (on c.requires.accepts.1.state) c.requires.accepts.1.fit
     c.requires.accepts.1.is in
     (c.requires.accepts.1, o.stamp, o.ready)
-
-pub overflow_sub-m : goal.overflow_sub-m
-overflow_sub-m c = omega (arith, reader_range full c.args.m.node c.requires.accepts.1.is)
 
 pub hand_over-h-requires : goal.hand_over-h-requires
 hand_over-h-requires c =

@@ -10,10 +10,6 @@ pub returns-then-k-ne0 : goal.returns-then-k-ne0
 unfolding said_of
 returns-then-k-ne0 c = called c.refused.ensures (unlent full _ _ _ (sym c.unfit-k.ensures) c.if-k-ne0.true)
 
-pub check-requires : goal.check-requires
-unfolding said_of
-check-requires c = sym c.unfit-k.ensures ∙ c.if-k-ne0.false
-
 pub returns : goal.returns
 unfolding said_of
 returns c =

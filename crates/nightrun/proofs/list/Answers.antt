@@ -5,11 +5,8 @@ use Rattle.meaning.proofs.Terms.{full}
 use Rattle.text.proofs.Writing.{put_as}
 use Rattle.listingout.proofs.Rooms.{length_broken}
 use Rattle.blank.proofs.Blank.{blank_fit, blank_means}
-use Rattle.nightrun.proofs.Whole.{listed, not_listed, listing_broken, ready_fine, listed_fine}
+use Rattle.nightrun.proofs.Whole.{listed, listing_broken, ready_fine, listed_fine}
 use Rattle.nightrun.proofs.list.Goals as goal
-
-pub returns-then-out-lt-LONGEST_LISTING : goal.returns-then-out-lt-LONGEST_LISTING
-returns-then-out-lt-LONGEST_LISTING c = let a = c.args in not_listed a.file.now a.out.now c.if-out-lt-LONGEST_LISTING.true
 
 pub open-o-requires : goal.open-o-requires
 open-o-requires c = blank_fit _ (replicate full.store 0) _ (length-replicate {A = ℕ} full.store 0) c.fresh-fresh.ensures

@@ -1,10 +1,7 @@
 -- No room for the answer, or refused, or queued: each is the outcome that the definition settles (`Housing`).
-use Rattle.units.proofs.Common.{sym, length-take-le, not-false, not-true}
+use Rattle.units.proofs.Common.{not-false, not-true}
 use Rattle.settle.proofs.Housing.{house_enlistable, houses_refused, houses_13, houses_queued}
 use Rattle.settle.proofs.house.Goals as goal
-
-pub slice_bounds-enlist-end : goal.slice_bounds-enlist-end
-slice_bounds-enlist-end c = sym (length-take-le _ _ c.requires.1.inside)
 
 pub enlist-e-requires : goal.enlist-e-requires
 enlist-e-requires c = house_enlistable c.requires.0 c.requires.1 c.in-Due.is c.swept-ns.ensures

@@ -1,13 +1,7 @@
 -- No room for the answer, or refused, or queued: each is the outcome that the definition settles (`Seating`).
-use Rattle.units.proofs.Common.{sym, length-take-le, not-false, not-true}
-use Rattle.settle.proofs.Seating.{index, seat_enlistable, seats_refused, seats_13, seats_queued}
+use Rattle.units.proofs.Common.{not-false, not-true}
+use Rattle.settle.proofs.Seating.{seat_enlistable, seats_refused, seats_13, seats_queued}
 use Rattle.settle.proofs.seat.Goals as goal
-
-pub overflow_sub-i : goal.overflow_sub-i
-overflow_sub-i c = (index c.requires.0.1).0
-
-pub slice_bounds-enlist-end : goal.slice_bounds-enlist-end
-slice_bounds-enlist-end c = sym (length-take-le _ _ c.requires.1.inside)
 
 pub enlist-q-requires : goal.enlist-q-requires
 enlist-q-requires c = seat_enlistable c.requires.0.1 c.requires.1 c.in-Due.is

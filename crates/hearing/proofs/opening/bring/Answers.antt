@@ -1,18 +1,11 @@
 -- The loop's invariant: the lines from here on are the lines from the start on. The measure is how many plaques are to come.
-use Rattle.units.proofs.Common.{sym, ◌∙◌, refl, ap, List, ℕ, ◌-◌, ◌+◌, arith, drop, length-drop}
+use Rattle.units.proofs.Common.{sym, ◌∙◌, ap, List, ℕ, ◌-◌, ◌+◌, arith, drop, length-drop}
 use Rattle.meaning.proofs.Terms.{full, Gateway}
 use Rattle.machine.proofs.Terms.{machine, meaning}
 use Rattle.listing.specs.Listing.{plaque_lines}
 use Rattle.runfile.proofs.Records.{PlaqueRead, plaque_read, plaque_unread, count_read, count_unread}
 use Rattle.hearing.proofs.Standing.{plaque_on, plaque_off, count_off, stands_as, stands_broken, stands_counted}
 use Rattle.hearing.proofs.opening.bring.Goals as goal
-
--- ---- the needs
-pub loop-left-init : goal.loop-left-init
-loop-left-init c = (c.requires.in_bounds.0, refl, c.requires.plaques_value, refl)
-
-pub shape_of-plaques-in_default : goal.shape_of-plaques-in_default
-shape_of-plaques-in_default c = c.loop-left.invariant.1
 
 pub returns-in_default : goal.returns-in_default
 returns-in_default c =
@@ -29,18 +22,6 @@ arrive_at-t-requires c =
       plaques_value = c.loop-left.invariant.2;
     }
 
-pub overflow_add-at : goal.overflow_add-at
-overflow_add-at c =
-    let read : PlaqueRead full ((drop c.loop-left.at c.args.file.now)) c.in-Plaque.node c.in-Plaque.length.0 = plaque_read full ((drop c.loop-left.at c.args.file.now)) (sym c.in-Plaque.is ∙ c.read_plaque.ensures) in
-    let r = read in
-    record { fits = omega (arith, r.facts.there, r.facts.low, length-drop c.loop-left.at c.args.file.now) }
-
-pub overflow_add-at-in-loop-left : goal.overflow_add-at-in-loop-left
-overflow_add-at-in-loop-left c =
-    let read : PlaqueRead full ((drop c.loop-left.at c.args.file.now)) c.in-Plaque.node c.in-Plaque.length.0 = plaque_read full ((drop c.loop-left.at c.args.file.now)) (sym c.in-Plaque.is ∙ c.read_plaque.ensures) in
-    let r = read in
-    record { fits = omega (arith, r.facts.there, r.facts.low, length-drop c.loop-left.at c.args.file.now) }
-
 pub loop-left-preserved : goal.loop-left-preserved
 loop-left-preserved c =
     let read : PlaqueRead full ((drop c.loop-left.at c.args.file.now)) c.in-Plaque.node c.in-Plaque.length.0 = plaque_read full ((drop c.loop-left.at c.args.file.now)) (sym c.in-Plaque.is ∙ c.read_plaque.ensures) in
@@ -54,17 +35,11 @@ loop-left-preserved c =
           ∙ sym (plaque_on full ((meaning full (machine c.loop-left.t c.args.store.now c.loop-left.plaques))) file c.loop-left.at c.loop-left.left _ (omega arith) r.whole r.size) ∙ c.loop-left.invariant.3,
     )
 
-pub shape_of-plaques-in_default-read_count : goal.shape_of-plaques-in_default-read_count
-shape_of-plaques-in_default-read_count c = c.loop-left.invariant.1
-
 pub returns-in_default-read_count : goal.returns-in_default-read_count
 returns-in_default-read_count c =
     let e = count_unread ((drop c.loop-left.at c.args.file.now)) (sym c.in_default-read_count.is ∙ c.read_count.ensures) in
     stands_as (sym c.loop-left.invariant.3)
     (stands_broken (count_off full ((meaning full (machine c.loop-left.t c.args.store.now c.loop-left.plaques))) ((drop c.loop-left.at c.args.file.now)) c.loop-left.left (omega arith) e) c.loop-left.invariant.2 _ c.broken-in_default-read_count.ensures)
-
-pub shape_of-plaques : goal.shape_of-plaques
-shape_of-plaques c = c.loop-left.invariant.1
 
 pub returns : goal.returns
 returns c =

@@ -1,41 +1,16 @@
 -- The loop's invariant is `Along`: what is still to come makes the whole text. Each way around writes one line of it, and leaves a
 -- consistent machine that means the gateway after that command. The measure is how many commands are to come.
-use Rattle.units.proofs.Common.{sym, ◌∙◌, ◌≡◌, refl, true, ℕ, ◌≤◌, ◌-◌, ◌+◌, ◌<◌, arith, length, drop, length-replicate}
+use Rattle.units.proofs.Common.{sym, ◌∙◌, ◌≡◌, refl, true, ◌≤◌, ◌-◌, ◌+◌, ◌<◌, arith, length, drop}
 use Rattle.meaning.proofs.Terms.{full, is_reader}
 use Rattle.machine.proofs.Terms.{machine}
-use Rattle.promise.proofs.Parts.{parts}
-use Rattle.obey.proofs.Taking.{first, inside, seatable, houseable}
-use Rattle.text.proofs.Writing.{put_length}
+use Rattle.obey.proofs.Taking.{first, inside, seatable}
 use Rattle.runfile.proofs.Records.{command_unread}
-use Rattle.asking.specs.Ask.{longest, longest_line}
+use Rattle.asking.specs.Ask.{longest_line}
 use Rattle.hearing.specs.Here.{CommandHere}
 use Rattle.hearing.proofs.Here.{CommandThere, command_there, command_here}
 use Rattle.nightrun.proofs.Playing.{packet_inside, packet_long, accepts_here, reader_here, played_refused, played_hub, played_reader}
-use Rattle.nightrun.proofs.Playing.{along_begun, along_played, along_room, along_short, along_left, along_clean}
+use Rattle.nightrun.proofs.Playing.{along_played, along_room, along_short, along_left, along_clean}
 use Rattle.nightrun.proofs.walk.play.Goals as goal
-
-pub loop-left-init : goal.loop-left-init
-loop-left-init c = (length-replicate {A = ℕ} longest 0, along_begun c.requires.ready c.requires.plaques_value)
-
-pub put_broken-requires : goal.put_broken-requires
-put_broken-requires c =
-    let room : c.loop-left.to + longest_line ≤ length c.loop-left.out = along_room c.loop-left.invariant.1 c.requires.ready in
-    omega (arith, room)
-
-pub shape_of-store-in_default : goal.shape_of-store-in_default
-shape_of-store-in_default c =
-    let same_store : length c.loop-left.store ≡ length c.args.store.now = (parts full _ c.loop-left.invariant.1.sound).store ∙ sym (parts full _ c.requires.plaques_value).store in
-    same_store
-
-pub shape_of-plaques-in_default : goal.shape_of-plaques-in_default
-shape_of-plaques-in_default c =
-    let same_plaques : length c.loop-left.plaques ≡ length c.args.plaques.now = (parts full _ c.loop-left.invariant.1.sound).memory ∙ sym (parts full _ c.requires.plaques_value).memory in
-    same_plaques
-
-pub shape_of-out-in_default : goal.shape_of-out-in_default
-shape_of-out-in_default c =
-    put_length c.put_broken.ensures ∙
-    c.loop-left.invariant.1.same
 
 pub returns-in_default : goal.returns-in_default
 returns-in_default c =
@@ -43,43 +18,16 @@ returns-in_default c =
     (command_unread (drop c.loop-left.at c.args.file.now) (sym c.in_default.is ∙ c.read_command.ensures))
     c.put_broken.ensures
 
-pub slice_bounds-hear-end : goal.slice_bounds-hear-end
-slice_bounds-hear-end c = sym c.loop-left.invariant.0
-
 pub hear-h-requires : goal.hear-h-requires
 hear-h-requires c =
     let here : CommandHere c.args.file.now c.loop-left.at c.in-Command.size = command_here c.args.file.now c.loop-left.at (sym c.in-Command.is ∙ c.read_command.ensures) in
     (here, c.loop-left.invariant.0)
-
-pub overflow_add-at : goal.overflow_add-at
-overflow_add-at c =
-    let here : CommandHere c.args.file.now c.loop-left.at c.in-Command.size = command_here c.args.file.now c.loop-left.at (sym c.in-Command.is ∙ c.read_command.ensures) in
-    let there : CommandThere c.args.file.now c.loop-left.at c.in-Command.size.0 = command_there c.args.file.now c.loop-left.at (here) in
-    let h = there in
-    record { fits = omega (arith, h.inside, c.requires.ready.short) }
 
 pub bytes-requires : goal.bytes-requires
 bytes-requires c =
     let here : CommandHere c.args.file.now c.loop-left.at c.in-Command.size = command_here c.args.file.now c.loop-left.at (sym c.in-Command.is ∙ c.read_command.ensures) in
     let there : CommandThere c.args.file.now c.loop-left.at c.in-Command.size.0 = command_there c.args.file.now c.loop-left.at (here) in
     omega (arith, (there).facts.high)
-
-pub overflow_add-at-in-loop-left : goal.overflow_add-at-in-loop-left
-overflow_add-at-in-loop-left c =
-    let here : CommandHere c.args.file.now c.loop-left.at c.in-Command.size = command_here c.args.file.now c.loop-left.at (sym c.in-Command.is ∙ c.read_command.ensures) in
-    let there : CommandThere c.args.file.now c.loop-left.at c.in-Command.size.0 = command_there c.args.file.now c.loop-left.at (here) in
-    let h = there in
-    record { fits = omega (arith, h.inside, c.bytes.ensures, c.requires.ready.short) }
-
-pub put_refused-to-requires : goal.put_refused-to-requires
-put_refused-to-requires c =
-    let room : c.loop-left.to + longest_line ≤ length c.loop-left.out = along_room c.loop-left.invariant.1 c.requires.ready in
-    omega (arith, room)
-
-pub loop-left-smaller-then-h-ne0 : goal.loop-left-smaller-then-h-ne0
-loop-left-smaller-then-h-ne0 c =
-    let less : c.loop-left.left - 1 < c.loop-left.left = let f = c.loop-left-test.true in omega arith in
-    less
 
 -- ---- the next turn: the packet was refused, was the gateway's, or a reader's
 pub loop-left-preserved-then-h-ne0 : goal.loop-left-preserved-then-h-ne0
@@ -100,19 +48,6 @@ pub slice_bounds-words-end : goal.slice_bounds-words-end
 slice_bounds-words-end c =
     let here : CommandHere c.args.file.now c.loop-left.at c.in-Command.size = command_here c.args.file.now c.loop-left.at (sym c.in-Command.is ∙ c.read_command.ensures) in
     packet_long c.hear-h.ensures (here)
-
-pub hub_turn-r-requires : goal.hub_turn-r-requires
-hub_turn-r-requires c =
-    let room : c.loop-left.to + longest_line ≤ length c.loop-left.out = along_room c.loop-left.invariant.1 c.requires.ready in
-    record {
-      accepts = (accepts_here c.hear-h.ensures c.if-h-ne0.false, c.if-m-eq-HUB.true, houseable ((machine c.loop-left.s c.loop-left.store c.loop-left.plaques)) c.loop-left.invariant.1.sound);
-      longest_line_in_bounds = room;
-    }
-
-pub loop-left-smaller-then-m-eq-HUB : goal.loop-left-smaller-then-m-eq-HUB
-loop-left-smaller-then-m-eq-HUB c =
-    let less : c.loop-left.left - 1 < c.loop-left.left = let f = c.loop-left-test.true in omega arith in
-    less
 
 pub loop-left-preserved-then-m-eq-HUB : goal.loop-left-preserved-then-m-eq-HUB
 loop-left-preserved-then-m-eq-HUB c =
@@ -166,11 +101,6 @@ bounds-s-i-in-loop-left-3 c =
     let index : c.hear-h.result.what.node - 1 < 16 = inside ((machine c.loop-left.s c.loop-left.store c.loop-left.plaques)) c.loop-left.invariant.1.sound c.hear-h.result.what.node _ (is) refl in
     index
 
-pub loop-left-smaller : goal.loop-left-smaller
-loop-left-smaller c =
-    let less : c.loop-left.left - 1 < c.loop-left.left = let f = c.loop-left-test.true in omega arith in
-    less
-
 pub loop-left-preserved : goal.loop-left-preserved
 loop-left-preserved c =
     let here : CommandHere c.args.file.now c.loop-left.at c.in-Command.size = command_here c.args.file.now c.loop-left.at (sym c.in-Command.is ∙ c.read_command.ensures) in
@@ -181,40 +111,12 @@ loop-left-preserved c =
           (played_reader c.hear-h.ensures ((machine c.loop-left.s c.loop-left.store c.loop-left.plaques)) v.sound c.reader_turn-r.result (is) c.reader_turn-r.ensures),
     )
 
-pub put_broken-requires-then-at-file : goal.put_broken-requires-then-at-file
-put_broken-requires-then-at-file c =
-    let room : c.loop-left.to + longest_line ≤ length c.loop-left.out = along_room c.loop-left.invariant.1 c.requires.ready in
-    omega (arith, room)
-
-pub shape_of-store-then-at-file : goal.shape_of-store-then-at-file
-shape_of-store-then-at-file c =
-    let same_store : length c.loop-left.store ≡ length c.args.store.now = (parts full _ c.loop-left.invariant.1.sound).store ∙ sym (parts full _ c.requires.plaques_value).store in
-    same_store
-
-pub shape_of-plaques-then-at-file : goal.shape_of-plaques-then-at-file
-shape_of-plaques-then-at-file c =
-    let same_plaques : length c.loop-left.plaques ≡ length c.args.plaques.now = (parts full _ c.loop-left.invariant.1.sound).memory ∙ sym (parts full _ c.requires.plaques_value).memory in
-    same_plaques
-
-pub shape_of-out-then-at-file : goal.shape_of-out-then-at-file
-shape_of-out-then-at-file c = put_length c.put_broken-then-at-file.ensures ∙ c.loop-left.invariant.1.same
-
 -- ---- the end
 pub returns-then-at-file : goal.returns-then-at-file
 returns-then-at-file c =
     let f = c.loop-left-test.false in
     let g = c.if-at-file.true in
     along_left c.loop-left.invariant.1 c.requires.ready (omega arith) (λ e. omega arith) c.put_broken-then-at-file.ensures
-
-pub shape_of-store : goal.shape_of-store
-shape_of-store c =
-    let same_store : length c.loop-left.store ≡ length c.args.store.now = (parts full _ c.loop-left.invariant.1.sound).store ∙ sym (parts full _ c.requires.plaques_value).store in
-    same_store
-
-pub shape_of-plaques : goal.shape_of-plaques
-shape_of-plaques c =
-    let same_plaques : length c.loop-left.plaques ≡ length c.args.plaques.now = (parts full _ c.loop-left.invariant.1.sound).memory ∙ sym (parts full _ c.requires.plaques_value).memory in
-    same_plaques
 
 pub returns : goal.returns
 returns c =

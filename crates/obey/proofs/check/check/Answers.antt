@@ -1,5 +1,5 @@
 -- A wrong stamp, or no reader: refused; else what the reader's parts come to is the meaning's step (`Taking`).
-use Rattle.units.proofs.Common.{sym, ◌∙◌, rules}
+use Rattle.units.proofs.Common.{sym, ◌∙◌}
 use Rattle.meaning.proofs.Terms.{full, check}
 use Rattle.machine.proofs.Terms.{machine}
 use Rattle.promise.specs.Obeyed.{said_of}
@@ -7,7 +7,7 @@ use Rattle.promise.proofs.Commands.{checked_3, checked_7}
 use Rattle.answers.specs.Ordered.{looking}
 use Rattle.answers.proofs.Indices.{slot_out, slot_in}
 use Rattle.answers.proofs.Replies.{stepped, called}
-use Rattle.obey.proofs.Taking.{seatable, seats_here, checks_here}
+use Rattle.obey.proofs.Taking.{seats_here, checks_here}
 use Rattle.obey.proofs.check.check.Goals as goal
 
 pub returns-then-not-is_valid : goal.returns-then-not-is_valid
@@ -25,25 +25,6 @@ returns-then-i-ge-READERS c =
     called c.refused-then-i-ge-READERS.ensures (stepped (check a.node a.t a.clock) c.requires
     (checked_7 full (machine c.args.s c.args.store.now c.args.plaques.now) c.requires a.node a.t a.clock (sym c.is_valid.ensures ∙ c.if-not-is_valid.false)
     (slot_out a.node _ c.reader_slot-i.ensures c.if-i-ge-READERS.true)))
-
-pub bounds-s-i : goal.bounds-s-i
-unfolding said_of
-bounds-s-i c =
-    let i = slot_in c.args.node c.reader_slot-i.result
-    c.reader_slot-i.ensures c.if-i-ge-READERS.false in
-    search rules
-
-pub looked-r-requires : goal.looked-r-requires
-unfolding said_of
-looked-r-requires c =
-    let p = slot_in c.args.node c.reader_slot-i.result c.reader_slot-i.ensures c.if-i-ge-READERS.false in (
-      seatable (machine c.args.s c.args.store.now c.args.plaques.now) c.requires c.args.node _ p.0 p.1,
-      sym c.is_valid.ensures ∙ c.if-not-is_valid.false,
-    )
-
-pub seated-requires : goal.seated-requires
-unfolding said_of
-seated-requires c = c.if-i-ge-READERS.false
 
 pub returns : goal.returns
 returns c =
