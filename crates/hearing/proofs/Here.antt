@@ -1,7 +1,7 @@
 -- A record at a place of the file: it stands inside, its parts as the code takes them are the definition's, and what is made of them.
 -- Assumes nothing.
 use Rattle.units.proofs.Common.{sym, ◌∙◌, ◌≡◌, refl, ap, List, ℕ, ◌≤◌, ◌-◌, ◌+◌, ◌*◌, arith, length, drop, take, drop-drop, packed}
-use Rattle.units.proofs.Common.{add-zero, get_or, length-drop, length-take-le, get_or-drop, take_at, length_packed, length-sets, sets}
+use Rattle.units.proofs.Common.{length-drop, length-take-le, take_at, length_packed, length-sets, sets}
 use Rattle.meaning.proofs.Terms.{Bench, Gateway, arrive, step, full, Said}
 use Rattle.listing.specs.Records.{plaque_node, plaque_length, plaque_id, plaque_bytes, command_packet, command_length, command_stamp}
 use Rattle.listing.specs.Listing.{arrived}
@@ -75,16 +75,6 @@ module _ (file : List ℕ) (at : ℕ) where
   arrives_at {b} {m} {m'} {said} {n} {l} h u d =
       let t = stepped b _ m said m' u (by_step b m _ u refl d) in
       record { means = t.means ∙ arrived_at b (meaning b m) file at n l.0 h.node h.size; sound = t.fit }
-
-  pub stamp_is : record {
-    month = get_or file at 0;
-    day = get_or file (at + 1) 0;
-    hour = get_or file (at + 2) 0;
-    minute = get_or file (at + 3) 0;
-    second = get_or file (at + 4) 0;
-  } ≡ command_stamp (drop at file)
-  stamp_is =
-      rw (get_or-drop at file 0 0, get_or-drop at file 1 0, get_or-drop at file 2 0, get_or-drop at file 3 0, get_or-drop at file 4 0, add-zero)
 
   -- the words of a command's packet in front of those lent, as the code packs them
   pub record Packs (n : ℕ) (words : List ℕ) : Type 0 where

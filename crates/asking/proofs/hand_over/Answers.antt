@@ -10,6 +10,18 @@ use Rattle.promise.proofs.Parts.{parts}
 use Rattle.handover.proofs.Served.{Stands}
 use Rattle.handover.proofs.Handing.{first, lies, first_is, slot_takeable, slot_taken}
 use Rattle.asking.proofs.hand_over.Goals as goal
+use Rattle.asking.proofs.hand_over.Goals.{After-place_of-place}
+
+-- the oldest answer stands at the place that was found, in a store of its whole size
+stands_here : (c : After-place_of-place)
+    → Stands (machine c.requires.0.state c.args.store.now c.requires.0.memory) c.place_of-place.result
+    (let w = c.requires.0 in first w.state c.args.store.now w.memory w.fit w.number w.is w.at w.slot w.some)
+stands_here c =
+    let w = c.requires.0 in
+    lies w.state c.args.store.now w.memory w.fit w.number w.is w.at w.slot w.some _ c.place_of-place.ensures
+
+stored : (c : After-place_of-place) → length c.args.store.now ≡ full.store
+stored c = (parts full (machine c.requires.0.state c.args.store.now c.requires.0.memory) c.requires.0.fit).store
 
 -- the part of the store that is lent is the answer
 lent : {m : Machine} {place : ℕ} {w : List ℕ} → Stands m place w
@@ -20,40 +32,23 @@ lent {m} {place} h =
 
 pub offset_bounds-store-place : goal.offset_bounds-store-place
 offset_bounds-store-place c =
-    let stands_here : Stands ((machine c.requires.0.state c.args.store.now c.requires.0.memory)) c.place_of-place.result ((let w = c.requires.0 in
-    first w.state c.args.store.now w.memory w.fit w.number w.is w.at w.slot w.some)) = let w = c.requires.0 in
-    lies w.state c.args.store.now w.memory w.fit w.number w.is w.at w.slot w.some _ c.place_of-place.ensures in
-    let stored : length c.args.store.now ≡ full.store = (parts full ((machine c.requires.0.state c.args.store.now c.requires.0.memory)) c.requires.0.fit).store in
-    record { fits = omega (arith, (stands_here).inside, stored) }
+    let h = stands_here c in record { fits = omega (arith, h.inside, stored c) }
 
 pub bounds-store-place : goal.bounds-store-place
 bounds-store-place c =
-    let stands_here : Stands ((machine c.requires.0.state c.args.store.now c.requires.0.memory)) c.place_of-place.result ((let w = c.requires.0 in
-    first w.state c.args.store.now w.memory w.fit w.number w.is w.at w.slot w.some)) = let w = c.requires.0 in
-    lies w.state c.args.store.now w.memory w.fit w.number w.is w.at w.slot w.some _ c.place_of-place.ensures in
-    let h = stands_here in omega (arith, h.inside, h.least)
+    let h = stands_here (goal.at.bounds-store-place c).After-place_of-place in omega (arith, h.inside, h.least)
 
 pub offset_bounds-store-place-2 : goal.offset_bounds-store-place-2
 offset_bounds-store-place-2 c =
-    let stands_here : Stands ((machine c.requires.0.state c.args.store.now c.requires.0.memory)) c.place_of-place.result ((let w = c.requires.0 in
-    first w.state c.args.store.now w.memory w.fit w.number w.is w.at w.slot w.some)) = let w = c.requires.0 in
-    lies w.state c.args.store.now w.memory w.fit w.number w.is w.at w.slot w.some _ c.place_of-place.ensures in
-    let stored : length c.args.store.now ≡ full.store = (parts full ((machine c.requires.0.state c.args.store.now c.requires.0.memory)) c.requires.0.fit).store in
-    record { fits = omega (arith, (stands_here).inside, stored) }
+    let h = stands_here (goal.at.offset_bounds-store-place-2 c).After-place_of-place in record { fits = omega (arith, h.inside, stored (goal.at.offset_bounds-store-place-2 c).After-place_of-place) }
 
 pub slice_bounds-put_words-end : goal.slice_bounds-put_words-end
 slice_bounds-put_words-end c =
-    let stands_here : Stands ((machine c.requires.0.state c.args.store.now c.requires.0.memory)) c.place_of-place.result ((let w = c.requires.0 in
-    first w.state c.args.store.now w.memory w.fit w.number w.is w.at w.slot w.some)) = let w = c.requires.0 in
-    lies w.state c.args.store.now w.memory w.fit w.number w.is w.at w.slot w.some _ c.place_of-place.ensures in
-    let h = stands_here in omega (arith, h.says, h.inside)
+    let h = stands_here (goal.at.slice_bounds-put_words-end c).After-place_of-place in omega (arith, h.says, h.inside)
 
 pub put_words-at-requires : goal.put_words-at-requires
 put_words-at-requires c =
-    let stands_here : Stands ((machine c.requires.0.state c.args.store.now c.requires.0.memory)) c.place_of-place.result ((let w = c.requires.0 in
-    first w.state c.args.store.now w.memory w.fit w.number w.is w.at w.slot w.some)) = let w = c.requires.0 in
-    lies w.state c.args.store.now w.memory w.fit w.number w.is w.at w.slot w.some _ c.place_of-place.ensures in
-    let h = stands_here in
+    let h = stands_here (goal.at.put_words-at-requires c).After-place_of-place in
     omega (arith, h.most, ap length (lent h), c.requires.1)
 
 pub take-less-requires : goal.take-less-requires

@@ -1,5 +1,5 @@
--- The loop's invariant is `Along`: what is still to come makes the whole text. Each way around writes one line of it, and leaves a
--- consistent machine that means the gateway after that command. The measure is how many commands are to come.
+-- A record that is not whole ends the text by `broken`; each command writes its line, refused, at the gateway or at a reader; bytes left at the
+-- end are broken too.
 use Rattle.units.proofs.Common.{sym, ◌∙◌, ◌≡◌, refl, true, ◌≤◌, ◌-◌, ◌+◌, ◌<◌, arith, length, drop}
 use Rattle.meaning.proofs.Terms.{full, is_reader}
 use Rattle.machine.proofs.Terms.{machine}
@@ -7,10 +7,24 @@ use Rattle.obey.proofs.Taking.{first, inside, seatable}
 use Rattle.runfile.proofs.Records.{command_unread}
 use Rattle.asking.specs.Ask.{longest_line}
 use Rattle.hearing.specs.Here.{CommandHere}
-use Rattle.hearing.proofs.Here.{CommandThere, command_there, command_here}
+use Rattle.hearing.proofs.Here.{command_there, command_here}
 use Rattle.nightrun.proofs.Playing.{packet_inside, packet_long, accepts_here, reader_here, played_refused, played_hub, played_reader}
 use Rattle.nightrun.proofs.Playing.{along_played, along_room, along_short, along_left, along_clean}
 use Rattle.nightrun.proofs.walk.play.Goals as goal
+use Rattle.nightrun.proofs.walk.play.Goals.{In-Command, Else-m-eq-HUB}
+
+-- the record that was read, where it stands
+here : (c : In-Command) → CommandHere c.args.file.now c.loop-left.at c.in-Command.size
+here c = command_here c.args.file.now c.loop-left.at (sym c.in-Command.is ∙ c.read_command.ensures)
+
+-- the reader of an accepted command that is not for the gateway, and its index
+is : (c : Else-m-eq-HUB) → is_reader full c.hear-h.result.what.node ≡ true
+is c = reader_here c.hear-h.ensures c.if-h-ne0.false c.if-m-eq-HUB.false
+
+index : (c : Else-m-eq-HUB) → c.hear-h.result.what.node - 1 < 16
+index c =
+    inside (machine c.loop-left.s c.loop-left.store c.loop-left.plaques) c.loop-left.invariant.1.sound c.hear-h.result.what.node _ (is c)
+    refl
 
 pub returns-in_default : goal.returns-in_default
 returns-in_default c =
@@ -20,95 +34,73 @@ returns-in_default c =
 
 pub hear-h-requires : goal.hear-h-requires
 hear-h-requires c =
-    let here : CommandHere c.args.file.now c.loop-left.at c.in-Command.size = command_here c.args.file.now c.loop-left.at (sym c.in-Command.is ∙ c.read_command.ensures) in
-    (here, c.loop-left.invariant.0)
+    (here (goal.at.hear-h-requires c).In-Command, c.loop-left.invariant.0)
 
 pub bytes-requires : goal.bytes-requires
 bytes-requires c =
-    let here : CommandHere c.args.file.now c.loop-left.at c.in-Command.size = command_here c.args.file.now c.loop-left.at (sym c.in-Command.is ∙ c.read_command.ensures) in
-    let there : CommandThere c.args.file.now c.loop-left.at c.in-Command.size.0 = command_there c.args.file.now c.loop-left.at (here) in
-    omega (arith, (there).facts.high)
+    omega (arith, (command_there c.args.file.now c.loop-left.at (here (goal.at.bytes-requires c).In-Command)).facts.high)
 
 -- ---- the next turn: the packet was refused, was the gateway's, or a reader's
 pub loop-left-preserved-then-h-ne0 : goal.loop-left-preserved-then-h-ne0
 loop-left-preserved-then-h-ne0 c =
-    let here : CommandHere c.args.file.now c.loop-left.at c.in-Command.size = command_here c.args.file.now c.loop-left.at (sym c.in-Command.is ∙ c.read_command.ensures) in
     let v = c.loop-left.invariant.1 in (
       c.hear-h.ensures.long,
-      along_played v c.loop-left-test.true (here) c.bytes.ensures
+      along_played v c.loop-left-test.true (here (goal.at.loop-left-preserved-then-h-ne0 c).In-Command) c.bytes.ensures
           (played_refused c.hear-h.ensures c.if-h-ne0.true v.sound c.put_refused-to.ensures),
     )
 
 pub slice_bounds-packet-end : goal.slice_bounds-packet-end
 slice_bounds-packet-end c =
-    let here : CommandHere c.args.file.now c.loop-left.at c.in-Command.size = command_here c.args.file.now c.loop-left.at (sym c.in-Command.is ∙ c.read_command.ensures) in
-    packet_inside c.hear-h.ensures (here)
+    packet_inside c.hear-h.ensures (here (goal.at.slice_bounds-packet-end c).In-Command)
 
 pub slice_bounds-words-end : goal.slice_bounds-words-end
 slice_bounds-words-end c =
-    let here : CommandHere c.args.file.now c.loop-left.at c.in-Command.size = command_here c.args.file.now c.loop-left.at (sym c.in-Command.is ∙ c.read_command.ensures) in
-    packet_long c.hear-h.ensures (here)
+    packet_long c.hear-h.ensures (here (goal.at.slice_bounds-words-end c).In-Command)
 
 pub loop-left-preserved-then-m-eq-HUB : goal.loop-left-preserved-then-m-eq-HUB
 loop-left-preserved-then-m-eq-HUB c =
-    let here : CommandHere c.args.file.now c.loop-left.at c.in-Command.size = command_here c.args.file.now c.loop-left.at (sym c.in-Command.is ∙ c.read_command.ensures) in
     let v = c.loop-left.invariant.1 in (
       c.hear-h.ensures.long,
-      along_played v c.loop-left-test.true (here) c.bytes.ensures
-          (played_hub c.hear-h.ensures ((machine c.loop-left.s c.loop-left.store c.loop-left.plaques)) v.sound c.hub_turn-r.result c.hub_turn-r.ensures),
+      along_played v c.loop-left-test.true (here (goal.at.loop-left-preserved-then-m-eq-HUB c).In-Command) c.bytes.ensures
+          (played_hub c.hear-h.ensures (machine c.loop-left.s c.loop-left.store c.loop-left.plaques) v.sound c.hub_turn-r.result c.hub_turn-r.ensures),
     )
 
 pub overflow_sub-i : goal.overflow_sub-i
 overflow_sub-i c =
-    let is : is_reader full c.hear-h.result.what.node ≡ true = reader_here c.hear-h.ensures c.if-h-ne0.false c.if-m-eq-HUB.false in
-    first ((machine c.loop-left.s c.loop-left.store c.loop-left.plaques)) c.loop-left.invariant.1.sound c.hear-h.result.what.node _ (is) refl
+    first (machine c.loop-left.s c.loop-left.store c.loop-left.plaques) c.loop-left.invariant.1.sound c.hear-h.result.what.node _ (is (goal.at.overflow_sub-i c).Else-m-eq-HUB) refl
 
 pub bounds-s-i : goal.bounds-s-i
 bounds-s-i c =
-    let is : is_reader full c.hear-h.result.what.node ≡ true = reader_here c.hear-h.ensures c.if-h-ne0.false c.if-m-eq-HUB.false in
-    let index : c.hear-h.result.what.node - 1 < 16 = inside ((machine c.loop-left.s c.loop-left.store c.loop-left.plaques)) c.loop-left.invariant.1.sound c.hear-h.result.what.node _ (is) refl in
-    let i = index in omega arith
+    let i = index (goal.at.bounds-s-i c).Else-m-eq-HUB in omega arith
 
 pub bounds-s-i-in-loop-left : goal.bounds-s-i-in-loop-left
-bounds-s-i-in-loop-left c =
-    let is : is_reader full c.hear-h.result.what.node ≡ true = reader_here c.hear-h.ensures c.if-h-ne0.false c.if-m-eq-HUB.false in
-    let index : c.hear-h.result.what.node - 1 < 16 = inside ((machine c.loop-left.s c.loop-left.store c.loop-left.plaques)) c.loop-left.invariant.1.sound c.hear-h.result.what.node _ (is) refl in
-    index
+bounds-s-i-in-loop-left c = index (goal.at.bounds-s-i-in-loop-left c).Else-m-eq-HUB
 
 pub reader_turn-r-requires : goal.reader_turn-r-requires
 reader_turn-r-requires c =
-    let is : is_reader full c.hear-h.result.what.node ≡ true = reader_here c.hear-h.ensures c.if-h-ne0.false c.if-m-eq-HUB.false in
     let room : c.loop-left.to + longest_line ≤ length c.loop-left.out = along_room c.loop-left.invariant.1 c.requires.ready in
     record {
       accepts = (
         accepts_here c.hear-h.ensures c.if-h-ne0.false,
-        seatable ((machine c.loop-left.s c.loop-left.store c.loop-left.plaques)) c.loop-left.invariant.1.sound c.hear-h.result.what.node _
-            (is) refl,
+        seatable (machine c.loop-left.s c.loop-left.store c.loop-left.plaques) c.loop-left.invariant.1.sound c.hear-h.result.what.node _
+            (is (goal.at.reader_turn-r-requires c).Else-m-eq-HUB) refl,
       );
       longest_line_in_bounds = room;
     }
 
 pub bounds-s-i-in-loop-left-2 : goal.bounds-s-i-in-loop-left-2
 bounds-s-i-in-loop-left-2 c =
-    let is : is_reader full c.hear-h.result.what.node ≡ true = reader_here c.hear-h.ensures c.if-h-ne0.false c.if-m-eq-HUB.false in
-    let index : c.hear-h.result.what.node - 1 < 16 = inside ((machine c.loop-left.s c.loop-left.store c.loop-left.plaques)) c.loop-left.invariant.1.sound c.hear-h.result.what.node _ (is) refl in
-    let i = index in
-    omega arith
+    let i = index (goal.at.bounds-s-i-in-loop-left-2 c).Else-m-eq-HUB in omega arith
 
 pub bounds-s-i-in-loop-left-3 : goal.bounds-s-i-in-loop-left-3
-bounds-s-i-in-loop-left-3 c =
-    let is : is_reader full c.hear-h.result.what.node ≡ true = reader_here c.hear-h.ensures c.if-h-ne0.false c.if-m-eq-HUB.false in
-    let index : c.hear-h.result.what.node - 1 < 16 = inside ((machine c.loop-left.s c.loop-left.store c.loop-left.plaques)) c.loop-left.invariant.1.sound c.hear-h.result.what.node _ (is) refl in
-    index
+bounds-s-i-in-loop-left-3 c = index (goal.at.bounds-s-i-in-loop-left-3 c).Else-m-eq-HUB
 
 pub loop-left-preserved : goal.loop-left-preserved
 loop-left-preserved c =
-    let here : CommandHere c.args.file.now c.loop-left.at c.in-Command.size = command_here c.args.file.now c.loop-left.at (sym c.in-Command.is ∙ c.read_command.ensures) in
-    let is : is_reader full c.hear-h.result.what.node ≡ true = reader_here c.hear-h.ensures c.if-h-ne0.false c.if-m-eq-HUB.false in
     let v = c.loop-left.invariant.1 in (
       c.hear-h.ensures.long,
-      along_played v c.loop-left-test.true (here) c.bytes.ensures
-          (played_reader c.hear-h.ensures ((machine c.loop-left.s c.loop-left.store c.loop-left.plaques)) v.sound c.reader_turn-r.result (is) c.reader_turn-r.ensures),
+      along_played v c.loop-left-test.true (here (goal.at.loop-left-preserved c).In-Command) c.bytes.ensures
+          (played_reader c.hear-h.ensures (machine c.loop-left.s c.loop-left.store c.loop-left.plaques) v.sound c.reader_turn-r.result (is (goal.at.loop-left-preserved c).Else-m-eq-HUB) c.reader_turn-r.ensures),
     )
 
 -- ---- the end
