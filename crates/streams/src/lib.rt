@@ -6,8 +6,8 @@ ghost use Rattle.std.specs.Prelude.{◌≡◌, ◌<◌, ◌≤◌, true, length,
 ghost use Rattle.std.specs.Io.KnownBytes.{Appends, Consumes, IsAtEnd};
 
 use std::env::{Env, FillError};
+use std::hint;
 use std::io::{self, ErrorKind, Read, Write};
-use std::thread;
 
 // How often a call that moved nothing is made again. (No night lasts as long; the count shows the prover that it ends.)
 const PATIENCE: u64 = u64::MAX;
@@ -52,13 +52,13 @@ pub fn fail(rt: HostRuntime, what: &[u8], error: io::Error) {
     say(rt, b"\n");
 }
 
-// Whether a call that failed is to be made again. Where a descriptor does not wait, this lets others run and tries again: it costs
-// processor time while the other side is slow, and no byte.
+// Whether a call that failed is to be made again. Where a descriptor does not wait, it is tried again at once: that costs processor time
+// while the other side is slow, and no byte. (Std yields to others only where a program counts as one with threads.)
 fn again(error: io::Error) -> bool {
     match error.kind() {
         ErrorKind::Interrupted => true,
         ErrorKind::WouldBlock => {
-            thread::yield_now();
+            hint::spin_loop();
             true
         }
         _ => false,
