@@ -11,8 +11,8 @@ use Rattle.asking.proofs.Accepting.{heeded, names, steps_hub}
 use Rattle.asking.proofs.Asking.{took, plays_refused, plays_answered, waits_there, plays_handed, slot_at}
 use Rattle.asking.proofs.hub_turn.Goals as goal
 
-hub-slot : (n : ℕ) → n ≡ hub → node_slot full n ≡ full.readers
-hub-slot n e = yes_cond _ (eq-eqb n hub e)
+hub_slot : (n : ℕ) → n ≡ hub → node_slot full n ≡ full.readers
+hub_slot n e = yes_cond _ (eq-eqb n hub e)
 
 pub governed-house-requires : goal.governed-house-requires
 governed-house-requires c =
@@ -31,7 +31,7 @@ hand_over-h-requires c =
     let q = steps_hub c.requires.accepts.0 c.command_data-data.ensures c.requires.accepts.1 c.governed-house.result c.governed-house.ensures in
     let z = q p.state p.memory p.house p.fit in (
       waits_there full (on p.state p.memory) _ a.t a.words.now p.fit c.governed-house.result.reply z
-          c.in-Queued.is a.m.node full.readers (names c.requires.accepts.0) (hub-slot a.m.node c.requires.accepts.1)
+          c.in-Queued.is a.m.node full.readers (names c.requires.accepts.0) (hub_slot a.m.node c.requires.accepts.1)
           (slot_at _ (took p.fit z).fit full.readers (omega arith)),
       c.requires.longest_line_in_bounds,
     )
@@ -53,7 +53,7 @@ returns-in-Queued c x memory w fit =
     let q = steps_hub c.requires.accepts.0 c.command_data-data.ensures c.requires.accepts.1 c.governed-house.result c.governed-house.ensures in
     let z = q x memory w fit in
     plays_handed full (on x memory) _ a.t a.words.now fit c.governed-house.result.reply z
-    c.in-Queued.is a.m.node full.readers (names c.requires.accepts.0) (hub-slot a.m.node c.requires.accepts.1)
+    c.in-Queued.is a.m.node full.readers (names c.requires.accepts.0) (hub_slot a.m.node c.requires.accepts.1)
     (slot_at _ (took fit z).fit full.readers (omega arith)) c.hand_over-h.result c.hand_over-h.ensures _ refl
 
 pub returns-in-Done : goal.returns-in-Done

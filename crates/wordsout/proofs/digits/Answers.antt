@@ -20,13 +20,13 @@ carries p q r s hp hq hr hs =
     let cs : z / 268435456 ≡ (s + 6) / 16 = omega arith in
     rw (cp, cq, cr, cs)
 
-all-four : (p q r s : ℕ) → p < 16 → q < 16 → r < 16 → s < 16
+all_four : (p q r s : ℕ) → p < 16 → q < 16 → r < 16 → s < 16
     → summed p q r s + 808464432 + carried (summed p q r s + 101058054) * 7
     ≡ digit_of p + 256 * digit_of q + 65536 * digit_of r + 16777216 * digit_of s
-all-four p q r s hp hq hr hs =
+all_four p q r s hp hq hr hs =
     rw (carries p q r s hp hq hr hs, ← (digit_is p hp), ← (digit_is q hq), ← (digit_is r hr), ← (digit_is s hs)) (omega arith)
 
 pub returns : goal.returns
 returns c =
-    all-four (c.args.w / 4096) (c.args.w / 256 % 16) (c.args.w / 16 % 16) (c.args.w % 16)
+    all_four (c.args.w / 4096) (c.args.w / 256 % 16) (c.args.w / 16 % 16) (c.args.w % 16)
     (search rules) (search rules) (search rules) (search rules)
