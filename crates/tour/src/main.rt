@@ -6,7 +6,7 @@ use dialogout::{LONGEST_ANSWER, put_handed};
 use gateway::{acknowledge, arrive, collect, command};
 use promise::Handout;
 use state::State;
-use streams::show as write;
+use streams::show as put;
 use units::stamp::Stamp;
 use units::{Bytes, Form, Words};
 use wordsout::put_words;
@@ -18,7 +18,7 @@ fn say(rt: HostRuntime, words: &[u16]) {
     let mut line = [0u8; 675];
     let n = put_words(&mut line, 0, words);
     if n <= 675 {
-        write(rt, &line[..n]);
+        put(rt, &line[..n]);
     }
 }
 
@@ -99,7 +99,7 @@ fn show(rt: HostRuntime, s: State, store: &[u16], plaques: &[u8]) {
     let mut line = [0u8; LONGEST_ANSWER];
     let end = put_handed(&mut line, 0, number, Form::Framed, 32, &out[..n]);
     if end <= LONGEST_ANSWER {
-        write(rt, &line[..end]);
+        put(rt, &line[..end]);
     }
 }
 
