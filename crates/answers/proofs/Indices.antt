@@ -4,7 +4,7 @@ use Rattle.units.proofs.Common.{sym, ◌∙◌, ◌≡◌, refl, ap, true, false
 use Rattle.meaning.proofs.Terms.{full, is_reader}
 use Rattle.machine.proofs.Terms.{fresh_reader, Machine, unfit}
 use Rattle.state.specs.declared.reader.Reader.{Reader}
-use Rattle.state.proofs.Lists.{get_d_any}
+use Rattle.std.proofs.lemmas.List.{get_or_default}
 use Rattle.promise.proofs.Parts.{parts}
 use Rattle.promise.proofs.Tables.{reader_range}
 
@@ -36,4 +36,4 @@ module _ (m : Machine) (n i : ℕ) (fit : unfit full m ≡ 0) (is : is_reader fu
   pub reader_there : get_or m.state.readers (n - 1) fresh_reader ≡ get_or m.state.readers i blank_reader
   reader_there =
       ap (λ (k : ℕ). get_or m.state.readers k fresh_reader) (sym at)
-      ∙ get_d_any m.state.readers i fresh_reader blank_reader (omega (arith, (parts full m fit).each_reader, reader_range full n is))
+      ∙ get_or_default m.state.readers i fresh_reader blank_reader (omega (arith, (parts full m fit).each_reader, reader_range full n is))

@@ -2,38 +2,34 @@
 -- Assumes nothing.
 use Rattle.units.proofs.Common.{sym, ◌∙◌, ◌≡◌, refl, ap, List, [], ◌∷◌, ◌++◌, map, append_assoc, append-nil, ℕ, ◌≤◌, ◌-◌, ◌+◌, ◌<◌, suc}
 use Rattle.units.proofs.Common.{zero, add-zero, zero-add, add-one, arith, length, drop, get_or, take, set, length-drop, replicate}
-use Rattle.units.proofs.Common.{length-append, length-replicate, length-take, take-append-drop, drop_at, take-suc}
-use Rattle.units.proofs.Common.{take-suc-set, take_all}
+use Rattle.units.proofs.Common.{length-append, length-take, take-append-drop, drop_at, take-suc}
+use Rattle.units.proofs.Common.{take-suc-set}
 use native.Mathlib.Nat.{add_assoc}
-use lib.ListN.{replicate-append-replicate}
 use Rattle.units.specs.declared.Words.{Words}
 use Rattle.machine.proofs.Terms.{counts}
 use Rattle.state.specs.declared.node.Node.{Node}
-use Rattle.state.proofs.Lists.{map_append}
 use Rattle.lists.specs.Room.{sum, place_of}
-use lib.Seq.{sets, length-sets}
-use Rattle.units.proofs.PackingLaws.{sets_fits, sets_full}
+use lib.Seq.{take_at, drop-drop}
+use borrow.Rule.Slice.PartMut.{put_mid}
+use Rattle.std.proofs.lemmas.List.{drop-replicate, map-append}
 use Rattle.placed.proofs.InOrder.{blank, node_any}
 use Rattle.placed.specs.Walked.{words_of}
 use Rattle.placed.specs.declared.Node as O
 use Rattle.convert.specs.Convert.{held_by, runs_of, new_store, old_nodes, EachInside}
 
 -- ---- words copied in
--- copied to the front of zeros, and all of it back
-pub new_is : (s : List ℕ) (ns : List O.Node) → length (runs_of s ns) ≤ length s
-    → sets s 0 (sets (replicate (length s) 0) 0 (runs_of s ns)) ≡ new_store s ns
+-- behind those that stand there
+pub laid_more : (d p o ys zs : List ℕ) (to n : ℕ) → to ≡ length p → o ≡ p ++ drop to d → ys ≡ zs → length zs ≡ n
+    → put_mid to (to + n - to) o ys ≡ (p ++ zs) ++ drop (to + n) d
+laid_more d p o ys zs to n t e y l =
+    let k : to + n - to ≡ n = omega arith in
+    rw (k, e, y, take_at p (drop to d) to (sym t), drop_at p (drop to d) to (sym t), drop-drop, append_assoc)
+
+-- copied to the front of zeros
+pub new_is : (s : List ℕ) (ns : List O.Node) (n : ℕ) → length s ≡ n
+    → runs_of s ns ++ drop (length (runs_of s ns)) (replicate n 0) ≡ new_store s ns
 unfolding new_store
-new_is s ns h =
-    let r : List ℕ = runs_of s ns in
-    let k : ℕ = length s - length r in
-    let l : length r + k ≡ length s = omega arith in
-    let zs : List ℕ = replicate (length s) 0 in
-    let m : length zs ≡ length s = length-replicate (length s) 0 in
-    let z : zs ≡ replicate (length r) 0 ++ replicate k 0 = rw (replicate-append-replicate, l) in
-    let d : drop (length r) zs ≡ replicate k 0 =
-    rw z (drop_at (replicate (length r) 0) (replicate k 0) (length r) (length-replicate (length r) 0)) in
-    sets_full (sets zs 0 r) s (omega (arith, length-sets zs 0 r, m))
-    ∙ take_all (length s) (sets zs 0 r) (omega (arith, length-sets zs 0 r, m)) ∙ sets_fits r zs (omega (arith, m)) ∙ rw d
+new_is s ns n e = rw (e, drop-replicate)
 
 -- ---- the words of all lists: one node more
 abbrev pub run : List ℕ → O.Node → List ℕ
@@ -81,7 +77,7 @@ turn st ns room k to h e r t =
 -- ---- an array that a loop fills: one element more
 pub map_filled : {A B : Type 0} (f : A → B) (ns : List A) (out : List B) (k : ℕ) (d : A) (m : B) → k < length ns → k < length out
     → take k out ≡ map f (take k ns) → m ≡ f (get_or ns k d) → take (k + 1) (set out k m) ≡ map f (take (k + 1) ns)
-map_filled f ns out k d m h l e g = rw (add-one, take-suc-set out k m l, take-suc ns k d h, map_append, e, g)
+map_filled f ns out k d m h l e g = rw (add-one, take-suc-set out k m l, take-suc ns k d h, map-append, e, g)
 
 old_append : (to : ℕ) (xs ys : List Node) (gs hs : List Words) → length xs ≡ length gs
     → old_nodes to (xs ++ ys) (gs ++ hs) ≡ old_nodes to xs gs ++ old_nodes (to + sum (counts gs)) ys hs

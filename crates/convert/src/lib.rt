@@ -1,20 +1,18 @@
 // Converters between the layout with places, which was before request E8, and the one without gaps. They are no calls of a run.
 #![tactic(auto)]
 
-ghost use Rattle.std.specs.Prelude.{◌≡◌, map, ◌≤◌, length, replicate};
+ghost use Rattle.std.specs.Prelude.{◌≡◌, ◌++◌, map, ◌≤◌, length, drop, replicate};
 ghost use Rattle.meaning.specs.Bench.{full, node_count};
 ghost use Rattle.state.specs.State.{fresh_node};
 ghost use Rattle.machine.specs.Machine as N;
 ghost use Rattle.machine.specs.Consistent.{counts};
 ghost use Rattle.lists.specs.Room.{sum};
-ghost use Rattle.std.proofs.lemmas.List.Edits.{sets};
 ghost use Rattle.placed.specs.Machine as P;
 ghost use Rattle.placed.specs.State as PS;
 ghost use Rattle.convert.specs.Convert.{EachInside, Few, runs_of, new_node, old_nodes};
 ghost use Rattle.convert.specs.Promised.{ToNew, ToOld};
 
 use fit::unfit;
-use moves::copy_in;
 use placed::fine::helds;
 use placed::{Node as PlacedNode, Pending, State as PlacedState};
 use state::State;
@@ -38,18 +36,14 @@ pub struct Placed {
 // Copies the words of all lists, node by node, to the front of out.
 fn lay(nodes: [PlacedNode; NODES], store: &[u16], out: &mut [u16])
     requires { EachInside (length store.now) nodes × (length (runs_of store.now nodes) ≤ length out.old) }
-    ensures { out.new ≡ sets out.old 0 (runs_of store.now nodes) }
+    ensures { out.new ≡ runs_of store.now nodes ++ drop (length (runs_of store.now nodes)) out.old }
 {
-    let mut to: usize = 0;
-    let mut k: usize = 0;
-    while k < NODES {
-        let n = nodes[k];
-        let list = n.list;
-        let from = list.place;
-        let end = from + list.words.0 as usize;
-        copy_in(&store[from..end], out, to);
-        to += list.words.0 as usize;
-        k += 1;
+    let mut to = 0;
+    for n in nodes {
+        let place = n.list.place;
+        let words = n.list.words.0 as usize;
+        out[to..to + words].copy_from_slice(&store[place..place + words]);
+        to += words;
     }
 }
 
@@ -106,7 +100,7 @@ pub fn to_new(s: PlacedState, store: &mut [u16], plaques: &[u8]) -> Packed
     let nodes = s.nodes;
     let mut out = [0u16; Words::STORE.0 as usize];
     lay(nodes, store, &mut out);
-    copy_in(&out, store, 0);
+    store.copy_from_slice(&out);
     let state = State {
         name,
         readers,

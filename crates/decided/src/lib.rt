@@ -2,8 +2,7 @@
 // the call is settled.
 #![tactic(auto)]
 
-ghost use Rattle.std.specs.Prelude.{◌≡◌, ◌+◌, ◌≤◌, ltb, length, replicate};
-ghost use Rattle.std.proofs.Math.Seq.{paste};
+ghost use Rattle.std.specs.Prelude.{◌≡◌, ◌+◌, ltb, length};
 ghost use Rattle.decided.specs.Decided.{altered, Suits};
 
 use answers::Verdict;
@@ -57,30 +56,15 @@ pub fn past(plaque: Plaque, start: u16, size: u16) -> bool
     (plaque.length.0 as usize) < start as usize + size as usize
 }
 
-// Bytes of dst from a place on take one value.
-fn fill_bytes(dst: &mut [u8], from: usize, size: usize, byte: u8)
-    requires { from + size ≤ length dst.old }
-    ensures { dst.new ≡ paste dst.old from (replicate size byte) size }
-{
-    let mut j: usize = 0;
-    while j < size {
-        let o = from + j;
-        dst[o] = byte;
-        j += 1;
-    }
-}
-
 // The change, on the reader's region.
+#[tactic(auto, unfolding(crate::specs::Decided::altered, crate::specs::Decided::Suits))]
 pub fn alter(change: Change, words: &[u16], region: &mut [u8])
     requires { Suits change words.now (length region.old) }
     ensures { region.new ≡ altered change words.now region.old }
 {
     match change {
         Change::Kept => {}
-        Change::Filled { start, size, byte } => fill_bytes(region, start, size, byte),
-        Change::Written { start, size } => {
-            let end = start + size;
-            unpack(words, &mut region[start..end]);
-        }
+        Change::Filled { start, size, byte } => region[start..start + size].fill(byte),
+        Change::Written { start, size } => unpack(words, &mut region[start..start + size]),
     }
 }

@@ -2,8 +2,9 @@
 -- Assumes nothing.
 use Rattle.units.proofs.Common.{sym, ◌∙◌, ◌≡◌, ap, true, false, Bool, List, [], ◌∷◌, ℕ, ◌≤◌, ◌-◌, ◌+◌, ◌<◌, suc, zero, ℕ_discrete, arith}
 use Rattle.units.proofs.Common.{length, drop, get_or, take, length-drop, drop_of_length-le, length-take-le, le-leb, lt-leb, every, yes_cond}
-use Rattle.units.proofs.Common.{no_cond}
+use Rattle.units.proofs.Common.{no_cond, refl, get_or-drop, add-zero}
 use native.Mathlib.Decide.{dec_le}
+use Rattle.std.specs.List.{AllWithin, HoldsAt}
 use Rattle.dialog.specs.Fields.{fields}
 use Rattle.dialog.specs.Spoken.{field}
 use Rattle.dialog.proofs.FieldLaws.{clash, next, every_split, fields_some, fields_none, fields_blank, fields_more}
@@ -57,6 +58,31 @@ module _ (line : List ℕ) where
         most = f.most;
       }
 
+  -- where no blank stands before it, the field ends where it ends from there
+  no_blank : (n at r : ℕ) → at + n ≤ length line → ((k : ℕ) → k < n → get_or line (at + k) 0 ≡ 32 → ⊥) → FieldAt line (at + n) r
+      → FieldAt line at r
+  no_blank zero at r s h f = let z : at + 0 ≡ at = omega arith in rw z at f
+  no_blank (suc n) at r s h f =
+      let z : at + suc n ≡ at + 1 + n = omega arith in
+      let later : (k : ℕ) → k < n → get_or line (at + 1 + k) 0 ≡ 32 → ⊥ =
+      λ k l. let y : at + 1 + k ≡ at + (k + 1) = omega arith in rw y (h (k + 1) (omega arith)) in
+      at_other at r (omega arith) (λ e. h 0 (omega arith) (rw add-zero e)) (no_blank n (at + 1) r (omega arith) later (rw z at f))
+
+  none_among : (at n : ℕ) → AllWithin (λ (c : ℕ). c ≡ 32 → ⊥) (drop at line) 0 n → (k : ℕ) → k < n → get_or line (at + k) 0 ≡ 32 → ⊥
+  none_among at n f k h e = f k 0 (omega arith) h (get_or-drop at line k 0 ∙ e)
+
+  pub to_blank : (at n : ℕ) → n < length (drop at line) → HoldsAt (λ (c : ℕ). c ≡ 32) (drop at line) n
+      → AllWithin (λ (c : ℕ). c ≡ 32 → ⊥) (drop at line) 0 n → FieldAt line at (at + n)
+  to_blank at n h b f =
+      let s : at + n < length line = omega (arith, length-drop at line) in
+      no_blank n at (at + n) (omega arith) (none_among at n f) (at_blank (at + n) s (sym (get_or-drop at line n 0) ∙ b 0))
+
+  pub to_line_end : (at : ℕ) → at ≤ length line → AllWithin (λ (c : ℕ). c ≡ 32 → ⊥) (drop at line) 0 (length (drop at line))
+      → FieldAt line at (length line)
+  to_line_end at h f =
+      let z : at + length (drop at line) ≡ length line = omega (arith, length-drop at line) in
+      no_blank (length (drop at line)) at (length line) (omega arith) (none_among at (length (drop at line)) f) (rw z (at_end (length line) refl))
+
   -- bytes that pass a test which no blank passes are of one field
   pub through : (t : ℕ → Bool) → t 32 ≡ false → (k at e r : ℕ) → at + k ≡ e → e ≤ length line → every t (take k (drop at line)) ≡ true
       → FieldAt line e r → FieldAt line at r
@@ -97,3 +123,5 @@ module _ (line : List ℕ) where
         let e : fields_from line at ≡ [] = from_past at (omega arith) in
         ap (fields_from line) (after_past at (omega arith)) ∙ e ∙ sym (ap (drop 1) e)
   ]
+
+pub ruleset places = (from_past, after_field, after_past)

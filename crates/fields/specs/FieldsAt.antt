@@ -1,6 +1,6 @@
 -- The fields from a place of a line on, and the words of the table.
 -- Assumes nothing.
-use Rattle.std.specs.Prelude.{ℕ, ◌+◌, ◌-◌, ◌≤◌, ◌≡◌, cond, List, [], ◌∷◌, leb, length, take, drop}
+use Rattle.std.specs.Prelude.{ℕ, ◌+◌, ◌-◌, ◌≤◌, ◌≡◌, cond, List, [], ◌∷◌, leb, length, take, drop, Option, Some, None}
 use Rattle.meaning.specs.Call.{same}
 use Rattle.dialog.specs.Fields.{fields}
 use Rattle.dialog.specs.Spoken.{field}
@@ -8,14 +8,14 @@ use Rattle.text.specs.Text.{ascii}
 use Rattle.fields.specs.declared.Verb.{Verb}
 
 -- a line's first field
-unfoldable pub verb_of : List ℕ → Verb
+unfoldable pub verb_of : List ℕ → Option Verb
 verb_of w =
-    cond (same w (ascii "command")) Verb.Command
-    (cond (same w (ascii "check")) Verb.Check
-    (cond (same w (ascii "arrive")) Verb.Arrive
-    (cond (same w (ascii "leave")) Verb.Leave
-    (cond (same w (ascii "collect")) Verb.Collect
-    (cond (same w (ascii "acknowledge")) Verb.Acknowledge (cond (same w (ascii "store")) Verb.Store Verb.None))))))
+    cond (same w (ascii "command")) (Some Verb.Command)
+    (cond (same w (ascii "check")) (Some Verb.Check)
+    (cond (same w (ascii "arrive")) (Some Verb.Arrive)
+    (cond (same w (ascii "leave")) (Some Verb.Leave)
+    (cond (same w (ascii "collect")) (Some Verb.Collect)
+    (cond (same w (ascii "acknowledge")) (Some Verb.Acknowledge) (cond (same w (ascii "store")) (Some Verb.Store) None))))))
 
 -- the fields from a place on: none past the line's end
 unfoldable pub fields_from : List ℕ → ℕ → List (List ℕ)

@@ -1,10 +1,9 @@
 // The fields of a line, and the words of the table.
 #![tactic(auto)]
 
-ghost use Rattle.std.specs.Prelude.{◌≡◌, true, false, ◌<◌, ◌≤◌, length, get_or};
-ghost use Rattle.meaning.specs.Call.{same};
+ghost use Rattle.std.specs.Prelude.{◌≡◌, ◌≤◌, cond, leb, length, slice_get, option_copied};
 ghost use Rattle.dialog.specs.Spoken.{is_form, form_of};
-ghost use Rattle.fields.specs.FieldsAt.{FieldAt, verb_of};
+ghost use Rattle.fields.specs.FieldsAt.{fields_from, FieldAt, place_after, verb_of};
 
 use units::Form;
 
@@ -18,94 +17,80 @@ pub enum Verb {
     Collect,
     Acknowledge,
     Store,
-    None,
 }
 
+// What the field at a place of the line says, and the place of the field after it, past the line's end where there is none.
 #[derive(Clone, Copy)]
-pub struct FormRead {
-    pub ok: bool,
-    pub form: Form,
+pub struct Read<T> {
+    pub value: Option<T>,
+    pub next: usize,
 }
 
-// Whether the field at a place goes on there: the line does not end, and no blank stands there.
-pub fn goes_on(line: &[u8], at: usize) -> bool
-    requires { at ≤ length line.now }
-    ensures at_in_bounds { result ≡ true → (at < length line.now) × (get_or line.now at 0 ≡ 32 → ⊥) }
-    ensures field_at { result ≡ false → FieldAt line.now at at }
-{
-    if line.len() <= at {
-        return false;
+impl<T: Copy> Read<T> {
+    // What the line's last field says: nothing where one more follows.
+    pub fn last(self, line: &[u8]) -> Option<T>
+        ensures { result ≡ cond (leb self.next (length line.now)) None self.value }
+    {
+        if self.next <= line.len() {
+            return None;
+        }
+        self.value
     }
-    line[at] != b' '
 }
 
 // Where the field that begins at a place ends: at the next blank, or with the line.
-pub fn field_end(line: &[u8], at: usize) -> usize
+fn field_end(line: &[u8], at: usize) -> usize
     requires { at ≤ length line.now }
     ensures { FieldAt line.now at result }
 {
-    let mut end = at;
-    while goes_on(line, end) {
-        end += 1;
+    match line[at..].iter().position(|c| *c == b' ') {
+        Some(n) => at + n,
+        None => line.len(),
     }
-    end
 }
 
-pub fn is_same(field: &[u8], word: &[u8]) -> bool
-    ensures { result ≡ same field.now word.now }
+// The field at a place, as it stands.
+#[tactic(auto, using(crate::proofs::Places::places))]
+pub fn read_field(line: &[u8], at: usize) -> Read<&[u8]>
+    ensures value { option_copied result.value ≡ slice_get (fields_from line.now at) 0 }
+    ensures next { result.next ≡ place_after line.now at }
 {
-    if field.len() != word.len() {
-        return false;
-    }
-    let mut i = 0;
-    while i < field.len() {
-        if field[i] != word[i] {
-            return false;
-        }
-        i += 1;
-    }
-    true
-}
-
-#[tactic(auto, unfolding(crate::specs::FieldsAt::verb_of))]
-pub fn verb_of(field: &[u8]) -> Verb
-    ensures { result ≡ verb_of field.now }
-{
-    if is_same(field, b"command") {
-        return Verb::Command;
-    }
-    if is_same(field, b"check") {
-        return Verb::Check;
-    }
-    if is_same(field, b"arrive") {
-        return Verb::Arrive;
-    }
-    if is_same(field, b"leave") {
-        return Verb::Leave;
-    }
-    if is_same(field, b"collect") {
-        return Verb::Collect;
-    }
-    if is_same(field, b"acknowledge") {
-        return Verb::Acknowledge;
-    }
-    if is_same(field, b"store") {
-        return Verb::Store;
-    }
-    Verb::None
-}
-
-pub fn form_of(field: &[u8]) -> FormRead
-    ensures { result ≡ record { ok = is_form field.now; form = form_of field.now } }
-{
-    if is_same(field, b"framed") {
-        return FormRead {
-            ok: true,
-            form: Form::Framed,
+    if line.len() < at {
+        return Read {
+            value: None,
+            next: at,
         };
     }
-    FormRead {
-        ok: is_same(field, b"register"),
-        form: Form::Register,
+    let end = field_end(line, at);
+    Read {
+        value: Some(&line[at..end]),
+        next: end + 1,
+    }
+}
+
+#[tactic(auto, using(crate::proofs::Bytes::verbs))]
+pub fn verb_of(field: &[u8]) -> Option<Verb>
+    ensures { result ≡ verb_of field.now }
+{
+    match field {
+        b"command" => Some(Verb::Command),
+        b"check" => Some(Verb::Check),
+        b"arrive" => Some(Verb::Arrive),
+        b"leave" => Some(Verb::Leave),
+        b"collect" => Some(Verb::Collect),
+        b"acknowledge" => Some(Verb::Acknowledge),
+        b"store" => Some(Verb::Store),
+        _ => None,
+    }
+}
+
+#[tactic(auto, using(crate::proofs::Bytes::same_at))]
+pub fn form_of(field: &[u8]) -> Option<Form>
+    ensures { result ≡ cond (is_form field.now) (Some (form_of field.now)) None }
+{
+    match field {
+        b"framed" => Some(Form::Framed),
+        b"register" => Some(Form::Register),
+        _ => None,
     }
 }

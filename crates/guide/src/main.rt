@@ -5,15 +5,16 @@
 
 mod again;
 mod commands;
+mod line;
+mod pieces;
 mod responses;
-mod say;
 mod scan;
 
 use commands::say_of_command;
+use line::Line;
 use responses::say_of_response;
-use say::say;
 use scan::{after, part, starts, words_of};
-use streams::{fill, show};
+use streams::{fill, say};
 use units::Form;
 
 fn form_at(line: &[u8], at: usize) -> Form {
@@ -23,49 +24,35 @@ fn form_at(line: &[u8], at: usize) -> Form {
     Form::Register
 }
 
-fn say_packet(out: &mut [u8], at: usize, words: &[u16], form: Form, command: bool) -> usize {
-    if command {
-        return say_of_command(out, at, words, form);
-    }
-    say_of_response(out, at, words, form)
-}
-
-// The line for one worked packet.
-fn say_line(out: &mut [u8], line: &[u8]) -> usize {
+// What is said of the worked packet that a line has.
+fn said_of(line: &[u8]) -> Line {
     let direction = after(line, 0, b'|');
     let form = after(line, direction, b'|');
     let packet = after(line, form, b'|');
     let end = after(line, packet, b'|');
     let mut words = [0u16; 256];
     let n = words_of(part(line, after(line, packet, b' '), end), &mut words);
-    let named = say(out, 0, part(line, 0, after(line, 0, b' ')));
-    say_packet(
-        out,
-        named,
-        &words[..n],
-        form_at(line, after(line, form, b' ')),
-        starts(line, after(line, direction, b' '), b'c'),
-    )
+    let read_in = form_at(line, after(line, form, b' '));
+    let mut said = Line::new();
+    said.say(part(line, 0, after(line, 0, b' ')));
+    if starts(line, after(line, direction, b' '), b'c') {
+        say_of_command(&mut said, &words[..n], read_in);
+    } else {
+        say_of_response(&mut said, &words[..n], read_in);
+    }
+    said
 }
 
 fn play_line(rt: HostRuntime, line: &[u8]) {
-    if starts(line, 0, b'#') {
+    if let [b'#' | b'\n', ..] = line {
         return;
     }
-    if starts(line, 0, b'\n') {
-        return;
-    }
-    let mut out = [0u8; 1024];
-    let n = say_line(&mut out, line);
-    show(rt, part(&out, 0, n));
+    say(rt.stdout(), said_of(line).text());
 }
 
 fn play(rt: HostRuntime, file: &[u8]) {
-    let mut at = 0;
-    while at < file.len() {
-        let next = after(file, at, b'\n');
-        play_line(rt, part(file, at, next));
-        at = next;
+    for line in file.split_inclusive(|b| *b == b'\n') {
+        play_line(rt, line);
     }
 }
 

@@ -1,5 +1,5 @@
 // Reading a line of worked packets. A place past the end is no fault: there is nothing there.
-ghost use Rattle.std.specs.Prelude.{◌-◌, ◌<◌, ◌≤◌, ◌≡◌, length, take, drop};
+ghost use Rattle.std.specs.Prelude.{◌-◌, ◌<◌, ◌≤◌, ◌≡◌, length, take, drop, IfSome};
 ghost use Rattle.guide.specs.Scan.{IsPrefixLen, stands_at};
 
 // The place after the first byte b at or after a place; the end where there is none.
@@ -7,86 +7,43 @@ pub fn after(s: &[u8], from: usize, b: u8) -> usize
     ensures within { result ≤ length s.now }
     ensures further { from < length s.now → from < result }
 {
-    let mut i = from;
-    while i < s.len() {
-        if s[i] == b {
-            return i + 1;
-        }
-        i += 1;
+    match part(s, from, s.len()).iter().position(|c| *c == b) {
+        Some(n) => from + n + 1,
+        None => s.len(),
     }
-    s.len()
 }
 
 // What there is from one place up to another.
 pub fn part(s: &[u8], from: usize, to: usize) -> &[u8]
     ensures { result.now ≡ take (to - from) (drop from s.now) }
 {
-    if s.len() < from {
-        return &s[..0];
-    }
-    if to < from {
-        return &s[..0];
-    }
-    if s.len() < to {
-        return &s[from..];
-    }
-    &s[from..to]
+    s.get(from..to.min(s.len())).unwrap_or(&[])
 }
 
+#[tactic(auto, unfolding(crate::specs::Scan::stands_at))]
 pub fn starts(s: &[u8], from: usize, b: u8) -> bool
     ensures { result ≡ stands_at s.now from b }
 {
-    if s.len() <= from {
-        return false;
-    }
-    s[from] == b
+    s.get(from).is_some_and(|c| *c == b)
 }
 
-// An upper-case hexadecimal digit; 16 where it is none.
-fn digit(b: u8) -> u16 {
+// An upper-case hexadecimal digit.
+fn digit(b: u8) -> Option<u16>
+    ensures { IfSome result (λ d. d < 16) }
+{
     match b {
-        b'0'..=b'9' => (b - b'0') as u16,
-        b'A'..=b'F' => (b - b'A') as u16 + 10,
-        _ => 16,
+        b'0'..=b'9' => Some((b - b'0') as u16),
+        b'A'..=b'F' => Some((b - b'A') as u16 + 10),
+        _ => None,
     }
-}
-
-#[derive(Clone, Copy)]
-enum Found {
-    Word(u16),
-    Nothing,
 }
 
 // Four digits make a word.
-fn joined(a: u16, b: u16, c: u16, d: u16) -> Found {
-    if 15 < a {
-        return Found::Nothing;
-    }
-    if 15 < b {
-        return Found::Nothing;
-    }
-    if 15 < c {
-        return Found::Nothing;
-    }
-    if 15 < d {
-        return Found::Nothing;
-    }
-    Found::Word(a * 4096 + b * 256 + c * 16 + d)
-}
-
-fn word_at(s: &[u8], at: usize) -> Found {
-    if s.len() < 4 {
-        return Found::Nothing;
-    }
-    if s.len() - 4 < at {
-        return Found::Nothing;
-    }
-    joined(
-        digit(s[at]),
-        digit(s[at + 1]),
-        digit(s[at + 2]),
-        digit(s[at + 3]),
-    )
+fn word_at(s: &[u8], at: usize) -> Option<u16> {
+    let [a, b, c, d, ..] = part(s, at, s.len()) else {
+        return None;
+    };
+    Some(digit(*a)? * 4096 + digit(*b)? * 256 + digit(*c)? * 16 + digit(*d)?)
 }
 
 // Puts the words, one blank between them, at the front of out, and hands back how many there are. What is no word ends them, and so
@@ -94,15 +51,13 @@ fn word_at(s: &[u8], at: usize) -> Found {
 pub fn words_of(s: &[u8], out: &mut [u16]) -> usize
     ensures { IsPrefixLen result out.new }
 {
-    let mut n = 0;
     let mut at = 0;
-    while n < out.len() {
-        let Found::Word(w) = word_at(s, at) else {
+    for (n, word) in out.iter_mut().enumerate() {
+        let Some(w) = word_at(s, at) else {
             return n;
         };
-        out[n] = w;
-        n += 1;
+        *word = w;
         at = after(s, at, b' ');
     }
-    n
+    out.len()
 }

@@ -18,7 +18,7 @@ use Rattle.promise.specs.Obeyed.{Does}
 use Rattle.promise.proofs.Chains.{stepped}
 use Rattle.promise.proofs.Promises.{by_step}
 use Rattle.runfile.specs.Records.{command_of}
-use Rattle.runfile.specs.declared.CommandRecord.{CommandRecord}
+use Rattle.std.proofs.Common.{Some}
 use Rattle.runfile.proofs.Records.{PlaqueFacts, plaque_facts, CommandFacts, command_facts, command_read}
 use Rattle.hearing.specs.Here.{longest, PlaqueHere, CommandHere, Arrives, Hears}
 
@@ -64,7 +64,7 @@ module _ (file : List ℕ) (at : ℕ) where
       let f : CommandFacts (drop at file) n.0 = rw h.size (command_facts (drop at file) h.whole) in
       record { facts = f; inside = omega (arith, f.low, f.there, length-drop at file) }
 
-  pub command_here : {n : Words} → CommandRecord.Command n ≡ command_of (drop at file) → CommandHere file at n
+  pub command_here : {n : Words} → Some n ≡ command_of (drop at file) → CommandHere file at n
   command_here e = let r = command_read (drop at file) e in record { size = r.size; whole = r.whole }
 
   -- the plaque arrived

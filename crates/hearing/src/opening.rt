@@ -7,7 +7,7 @@ ghost use Rattle.listing.specs.Listing.{longest_file};
 ghost use Rattle.hearing.specs.Opened.{Brings, Opens};
 
 use crate::arrive_at;
-use runfile::{CountRecord, LONGEST_FILE, PlaqueRecord, read_count, read_plaque};
+use runfile::{LONGEST_FILE, read_count, read_plaque};
 use state::State;
 
 // Where the walk over the commands is, and how many are to come by the count.
@@ -44,17 +44,15 @@ fn bring(file: &[u8], count: u16, s: State, store: &[u16], plaques: &mut [u8]) -
         (machine result.state store.now plaques.new) }
 {
     let mut at = 2;
-    let mut left = count;
     let mut t = s;
-    while 0 < left {
-        let PlaqueRecord::Plaque { node, length } = read_plaque(file, at) else {
+    for _ in 0..count {
+        let Some(plaque) = read_plaque(file, at) else {
             return broken(t);
         };
-        t = arrive_at(file, at, node, length, t, store, plaques);
-        at = at + 11 + length.0 as usize;
-        left -= 1;
+        t = arrive_at(file, at, plaque.node, plaque.length, t, store, plaques);
+        at = at + 11 + plaque.length.0 as usize;
     }
-    let CountRecord::Count(commands) = read_count(file, at) else {
+    let Some(commands) = read_count(file, at) else {
         return broken(t);
     };
     let walk = Walk {
@@ -76,7 +74,7 @@ pub fn open(file: &[u8], s: State, store: &[u16], plaques: &mut [u8]) -> Opened
     if LONGEST_FILE < file.len() {
         return broken(s);
     }
-    let CountRecord::Count(count) = read_count(file, 0) else {
+    let Some(count) = read_count(file, 0) else {
         return broken(s);
     };
     bring(file, count, s, store, plaques)

@@ -2,40 +2,15 @@
 // was lent for them stays as it was.
 #![tactic(auto)]
 
-ghost use Rattle.std.specs.Prelude.{◌≡◌, true, ◌||◌, ◌+◌, ◌*◌, ◌%◌, ◌<◌, ◌≤◌, length, take, drop};
+ghost use Rattle.std.specs.Prelude.{◌≡◌, true, ◌+◌, ◌*◌, ◌%◌, ◌<◌, ◌≤◌, length};
 ghost use Rattle.units.specs.Count.{every};
 ghost use Rattle.std.proofs.lemmas.List.Edits.{sets};
-ghost use Rattle.dialog.specs.Fields.{is_hex, hex_digit, word_ok, word_of, bytes_ok, pairs, bytes_of_hex};
-ghost use Rattle.dialog.specs.Spoken.{field};
+ghost use Rattle.meaning.specs.Call.{same};
+ghost use Rattle.dialog.specs.Fields.{is_hex, hex_digit, word_ok, word_of, dash, bytes_ok, pairs, bytes_of_hex};
 ghost use Rattle.fields.specs.FieldsAt.{fields_from};
-ghost use Rattle.hexwords.specs.WordsAt.{words_at, words_from};
+ghost use Rattle.hexwords.specs.WordsAt.{is_piece, words_at, words_from};
 
-use fields::{goes_on, is_same};
-use numbers::{both, is_within};
 use units::Bytes;
-
-// How many fields from a place on are words, where all are. A line may have more than a word can say, so this is no Words.
-#[derive(Clone, Copy)]
-pub struct WordsRead {
-    pub ok: bool,
-    pub words: usize,
-}
-
-// Both are asked for: a test that left at the first would be a branch that nobody can foretell.
-fn either(a: bool, b: bool) -> bool
-    ensures { result ≡ (a || b) }
-{
-    if a { true } else { b }
-}
-
-fn is_hex(c: u8) -> bool
-    ensures { result ≡ is_hex c }
-{
-    let digit = is_within(b'0', b'9', c);
-    let upper = is_within(b'A', b'F', c);
-    let lower = is_within(b'a', b'f', c);
-    either(either(digit, upper), lower)
-}
 
 // Without a branch: a letter is above 64 in either case, and its last four bits count from 1.
 fn digit_of(c: u8) -> u8
@@ -46,16 +21,13 @@ fn digit_of(c: u8) -> u8
     c % 16 + c / 64 * 9
 }
 
+// Each byte is asked for: a test that left at the first that is no digit would be a branch that nobody can foretell.
 fn all_hex(field: &[u8]) -> bool
     ensures { result ≡ every is_hex field.now }
 {
-    let mut all = true;
-    let mut i = 0;
-    while i < field.len() {
-        all = both(all, is_hex(field[i]));
-        i += 1;
-    }
-    all
+    field
+        .iter()
+        .fold(true, |all, c| all & c.is_ascii_hexdigit())
 }
 
 fn byte_of(high: u8, low: u8) -> u8
@@ -65,54 +37,45 @@ fn byte_of(high: u8, low: u8) -> u8
     digit_of(high) * 16 + digit_of(low)
 }
 
-// Whether the field at a place is a word: four digits, behind which it goes on no more. So its end is not looked for.
-fn is_word(line: &[u8], at: usize) -> bool
-    requires { at ≤ length line.now }
-    ensures { result ≡ word_ok (field (fields_from line.now at) 0) }
+#[tactic(auto, unfolding(dialog::specs::Fields::word_ok))]
+fn is_word(field: &[u8]) -> bool
+    ensures { result ≡ word_ok field.now }
 {
-    if line.len() - at < 4 {
-        return false;
-    }
-    if goes_on(line, at + 4) {
-        return false;
-    }
-    both(
-        is_hex(line[at]),
-        both(
-            is_hex(line[at + 1]),
-            both(is_hex(line[at + 2]), is_hex(line[at + 3])),
-        ),
-    )
+    field.len() == 4 && all_hex(field)
 }
 
-// Four digits at a place, as a word.
-fn word_of(line: &[u8], at: usize) -> u16
-    requires { (at + 4 ≤ length line.now) × (word_ok (take 4 (drop at line.now)) ≡ true) }
-    ensures { result ≡ word_of (take 4 (drop at line.now)) }
+// Whether a piece of a line is a word, alone or with the blank behind it.
+#[tactic(auto, using(crate::proofs::Words::ends_blank, crate::proofs::Words::ends_else))]
+fn is_piece(piece: &[u8]) -> bool
+    ensures { result ≡ is_piece piece.now }
 {
-    units::word::word(
-        byte_of(line[at], line[at + 1]),
-        byte_of(line[at + 2], line[at + 3]),
-    )
+    match piece {
+        [word @ .., b' '] => is_word(word),
+        _ => is_word(piece),
+    }
 }
 
-// The words from a place to the line's end, counted: each begins five bytes after the one before.
-pub fn count_words(line: &[u8], at: usize) -> WordsRead
+#[tactic(auto, using(crate::proofs::Words::digit, crate::proofs::Words::word_value))]
+fn word_of(digits: &[u8]) -> u16
+    requires { (length digits.now ≡ 4) × (every is_hex digits.now ≡ true) }
+    ensures { result ≡ word_of digits.now }
+{
+    units::word::word(byte_of(digits[0], digits[1]), byte_of(digits[2], digits[3]))
+}
+
+// The words from a place to the line's end, counted: each has four digits, and a blank stands between two.
+#[tactic(auto, using(crate::proofs::Words::none_left, crate::proofs::Words::uneven))]
+pub fn count_words(line: &[u8], at: usize) -> Option<usize>
     ensures { result ≡ words_at line.now at }
 {
-    let mut from = at;
-    let mut n = 0;
-    while from <= line.len() {
-        if !is_word(line, from) {
-            return WordsRead {
-                ok: false,
-                words: 0,
-            };
-        }
-        n += 1;
-        from += 5;
+    if line.len() < at {
+        return Some(0);
     }
-    WordsRead { ok: true, words: n }
+    let words = &line[at..];
+    if words.len() % 5 != 4 {
+        return None;
+    }
+    words.chunks(5).all(is_piece).then_some(words.len() / 5 + 1)
 }
 
 // And put to the front of out, as many as it has room for.
@@ -121,35 +84,30 @@ pub fn put_words(line: &[u8], at: usize, out: &mut [u16])
     ensures { out.new ≡ sets out.old 0 (words_from line.now at) }
 {
     let mut from = at;
-    let mut i = 0;
-    while i < out.len() {
+    for word in out.iter_mut() {
         if line.len() < from {
             return;
         }
-        out[i] = word_of(line, from);
-        i += 1;
+        *word = word_of(&line[from..from + 4]);
         from += 5;
     }
 }
 
+// No bytes at all are said by a dash.
+#[tactic(auto, using(fields::proofs::Bytes::same_at))]
+fn is_dash(field: &[u8]) -> bool
+    ensures { result ≡ same field.now dash }
+{
+    matches!(field, b"-")
+}
+
 // Whether a field is at most so many bytes.
+#[tactic(auto, unfolding(dialog::specs::Fields::bytes_ok))]
 pub fn is_bytes(field: &[u8], most: Bytes) -> bool
     ensures { result ≡ bytes_ok most.0 field.now }
 {
-    if is_same(field, b"-") {
-        return true;
-    }
     let n = field.len();
-    if n < 2 {
-        return false;
-    }
-    if n % 2 != 0 {
-        return false;
-    }
-    if (most.0 as usize) < n / 2 {
-        return false;
-    }
-    all_hex(field)
+    is_dash(field) || (2 <= n && n % 2 == 0 && n <= 2 * (most.0 as usize) && all_hex(field))
 }
 
 // The bytes of a field of digits, two a byte, put to the front of out, as many as it has room for.
@@ -157,14 +115,12 @@ fn put_pairs(field: &[u8], out: &mut [u8])
     requires { (length field.now % 2 ≡ 0) × (every is_hex field.now ≡ true) }
     ensures { out.new ≡ sets out.old 0 (pairs field.now) }
 {
-    let mut i = 0;
     let mut at = 0;
-    while i < out.len() {
+    for byte in out.iter_mut() {
         if field.len() <= at {
             return;
         }
-        out[i] = byte_of(field[at], field[at + 1]);
-        i += 1;
+        *byte = byte_of(field[at], field[at + 1]);
         at += 2;
     }
 }
@@ -175,7 +131,7 @@ pub fn put_bytes(field: &[u8], most: Bytes, out: &mut [u8]) -> Bytes
     ensures result_value { result.0 ≡ length (bytes_of_hex field.now) }
     ensures out_after { out.new ≡ sets out.old 0 (bytes_of_hex field.now) }
 {
-    if is_same(field, b"-") {
+    if is_dash(field) {
         return Bytes(0);
     }
     put_pairs(field, out);

@@ -1,8 +1,10 @@
 -- What the code says of a line, against what the line says.
 -- Assumes nothing.
-use Rattle.std.specs.Prelude.{ℕ, List, [], length}
+use Rattle.std.specs.Prelude.{ℕ, ◌≡◌, List, [], length, get_or, drop, Option, Some, None}
+use Rattle.std.proofs.lemmas.List.Edits.{sets}
 use Rattle.meaning.specs.Call.{command, check, arrive, leave, collect, acknowledge}
-use Rattle.dialog.specs.Spoken.{Spoken, passed, unreadable, call, look}
+use Rattle.dialog.specs.Spoken.{Spoken, passed, unreadable, call, look, call_by}
+use Rattle.dialog.specs.Fields.{fields}
 use Rattle.lines.specs.declared.Heard.{Heard}
 
 unfoldable pub heard_of : Spoken → Heard
@@ -15,6 +17,17 @@ heard_of (call (leave n)) = Heard.Leave n
 heard_of (call (collect f n k)) = Heard.Collect n f
 heard_of (call (acknowledge n h)) = Heard.Acknowledge n h
 heard_of (look f c) = Heard.Store f c
+
+-- the same, but none where the line is unreadable
+unfoldable pub readable : Spoken → Option Heard
+readable passed = Some Heard.Passed
+readable unreadable = None
+readable (call c) = Some (heard_of (call c))
+readable (look f c) = Some (Heard.Store f c)
+
+-- a line that is neither too long nor passed over
+abbrev pub call_said : List ℕ → Spoken
+call_said line = call_by (get_or (fields line) 0 []) (drop 1 (fields line))
 
 -- what stands in the buffers
 unfoldable pub words_in : Spoken → List ℕ
@@ -49,3 +62,10 @@ bytes_in (call (leave n)) = []
 bytes_in (call (collect f n k)) = []
 bytes_in (call (acknowledge n h)) = []
 bytes_in (look f c) = []
+
+-- what is returned, and the three buffers before and after
+pub record Leaves (s : Spoken) (r : Option Heard) (words words' id id' bytes bytes' : List ℕ) : Type 0 where
+  pub value : r ≡ readable s
+  pub words_after : words' ≡ sets words 0 (words_in s)
+  pub id_after : id' ≡ sets id 0 (id_in s)
+  pub bytes_after : bytes' ≡ sets bytes 0 (bytes_in s)

@@ -6,12 +6,12 @@ pub mod calls;
 ghost use Rattle.std.specs.Prelude.{◌≡◌};
 ghost use Rattle.std.proofs.lemmas.List.Edits.{sets};
 ghost use Rattle.dialog.specs.Spoken.{spoken};
-ghost use Rattle.lines.specs.Heard.{heard_of, words_in, id_in, bytes_in};
+ghost use Rattle.lines.specs.Heard.{heard_of, call_said, Leaves, words_in, id_in, bytes_in};
 
 use crate::calls::{
     read_acknowledge, read_arrive, read_check, read_collect, read_command, read_leave, read_store,
 };
-use fields::{Verb, field_end, verb_of};
+use fields::{Verb, read_field, verb_of};
 use units::stamp::Stamp;
 use units::{Bytes, Form, Words};
 
@@ -52,6 +52,23 @@ pub const LONGEST_PLAQUE: Bytes = Bytes(2047);
 // The longest line that is looked into.
 pub const LONGEST_LINE: usize = 4400;
 
+// A line that is neither too long nor passed over, as the call of its first field.
+fn read_call(line: &[u8], words: &mut [u16], id: &mut [u8], bytes: &mut [u8]) -> Option<Heard>
+    ensures { Leaves (call_said line.now) result words.old words.new id.old id.new bytes.old bytes.new }
+{
+    let verb = read_field(line, 0);
+    let at = verb.next;
+    match verb_of(verb.value?)? {
+        Verb::Command => read_command(line, at, words),
+        Verb::Check => read_check(line, at),
+        Verb::Arrive => read_arrive(line, at, id, bytes),
+        Verb::Leave => read_leave(line, at),
+        Verb::Collect => read_collect(line, at),
+        Verb::Acknowledge => read_acknowledge(line, at),
+        Verb::Store => read_store(line, at),
+    }
+}
+
 // Puts the words, the ID and the bytes to the front of the buffers, as much as they have room for; the rest of them stays.
 pub fn read_line(line: &[u8], words: &mut [u16], id: &mut [u8], bytes: &mut [u8]) -> Heard
     ensures value { result ≡ heard_of (spoken line.now) }
@@ -62,22 +79,8 @@ pub fn read_line(line: &[u8], words: &mut [u16], id: &mut [u8], bytes: &mut [u8]
     if LONGEST_LINE < line.len() {
         return Heard::Unreadable;
     }
-    if line.len() == 0 {
+    if line.is_empty() || line[0] == b'#' {
         return Heard::Passed;
     }
-    if line[0] == b'#' {
-        return Heard::Passed;
-    }
-    let end = field_end(line, 0);
-    let at = end + 1;
-    match verb_of(&line[..end]) {
-        Verb::Command => read_command(line, at, words),
-        Verb::Check => read_check(line, at),
-        Verb::Arrive => read_arrive(line, at, id, bytes),
-        Verb::Leave => read_leave(line, at),
-        Verb::Collect => read_collect(line, at),
-        Verb::Acknowledge => read_acknowledge(line, at),
-        Verb::Store => read_store(line, at),
-        Verb::None => Heard::Unreadable,
-    }
+    read_call(line, words, id, bytes).unwrap_or(Heard::Unreadable)
 }

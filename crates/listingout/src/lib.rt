@@ -7,6 +7,7 @@ ghost use Rattle.listing.specs.Lines.{number_line, commands_line, refused_line, 
 
 use text::{put, put_decimal, put_text};
 
+#[tactic(auto, unfolding(listing::specs::Lines::broken_line))]
 pub fn put_broken(out: &mut [u8], at: usize) -> usize
     requires { at + 7 ≤ length out.old }
     ensures { Put out.old at broken_line out.new result }
@@ -15,13 +16,14 @@ pub fn put_broken(out: &mut [u8], at: usize) -> usize
 }
 
 // A text and a number.
+#[tactic(auto, using(text::proofs::Writing::put_length, text::proofs::Writing::decimal_five))]
 fn put_number(out: &mut [u8], at: usize, text: &[u8], number: u16) -> usize
     requires { at + length text.now + 6 ≤ length out.old }
     ensures { Put out.old at (number_line text.now number) out.new result }
 {
     let to = put_text(out, at, text);
     let end = put_decimal(out, to, number as usize);
-    put(out, end, 10)
+    put(out, end, b'\n')
 }
 
 pub fn put_commands(out: &mut [u8], at: usize, count: u16) -> usize

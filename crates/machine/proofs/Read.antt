@@ -14,7 +14,8 @@ use Rattle.machine.specs.Machine.{nodes_in, plain}
 use Rattle.machine.specs.Consistent.{in_layout, node_at, formed, counts, bounded, listed, lists_ok}
 use Rattle.state.specs.declared.node.Node.{Node}
 use Rattle.machine.proofs.Formed.{formed_least, formed_says}
-use Rattle.state.proofs.Lists.{both, get_d_any}
+use Rattle.std.proofs.lemmas.List.{get_or_default}
+use Rattle.state.proofs.Lists.{both}
 
 -- ---- two lists of numbers that are the same
 pub same_is : (xs ys : List ℕ) → same xs ys ≡ true → xs ≡ ys
@@ -96,7 +97,7 @@ abbrev pub blank : Node
 blank = record { instance = 0; handover = 0; answers = 0 }
 
 pub node_any : (ns : List Node) (i : ℕ) → i < length ns → get_or ns i blank ≡ get_or ns i fresh_node
-node_any ns i h = get_d_any ns i blank fresh_node h
+node_any ns i h = get_or_default ns i blank fresh_node h
 
 -- the one node that has this meaning
 abbrev pub node_for : M.Node → Node

@@ -3,14 +3,13 @@
 // there too, and nothing more is played.
 #![tactic(auto)]
 
-ghost use Rattle.std.specs.Prelude.{◌<◌, ◌≤◌, length};
+ghost use Rattle.std.specs.Prelude.{◌<◌, ◌≤◌, length, IfOk};
 
 use nightrun::{LONGEST_LISTING, Listed, list};
-use plaques::copy_bytes;
 use std::env::Env;
 use std::fs::File;
 use std::io::{self, ErrorKind, Read};
-use streams::{Got, fail, put, say, take, word_count};
+use streams::{Failed, fail, put, say, take, word_count};
 
 // The longest word that is taken from the command line: it holds any path.
 const LONGEST_WORD: usize = 4096;
@@ -23,7 +22,7 @@ fn write_into(rt: HostRuntime, file: &[u8], out: &mut [u8]) -> bool {
     let Listed::Written(n) = list(file, out) else {
         return false;
     };
-    put(rt, &out[..n]) == n
+    put(rt, &out[..n]).is_ok()
 }
 
 // With room for every listing. (In a function of its own: no proof then looks at each of so many bytes.)
@@ -37,41 +36,39 @@ fn add(file: &mut [u8], n: usize, bytes: &[u8]) -> usize
     requires { (n < length file.old) × (1 ≤ length bytes.now) }
     ensures { (n < result) × (result ≤ length file.new) }
 {
-    let room = file.len() - n;
-    if bytes.len() <= room {
-        copy_bytes(bytes, file, n);
-        return n + bytes.len();
-    }
-    copy_bytes(&bytes[..room], file, n);
-    n + room
+    let more = bytes.len().min(file.len() - n);
+    file[n..n + more].copy_from_slice(&bytes[..more]);
+    n + more
 }
 
 // Reads a file's bytes, as many as there is room for.
-fn read_file<R: Read>(rt: HostRuntime, name: &[u8], from: &mut R, file: &mut [u8]) -> Got
-    ensures { result.n ≤ length file.new }
+fn read_file<R: Read>(
+    rt: HostRuntime,
+    name: &[u8],
+    from: &mut R,
+    file: &mut [u8],
+) -> Result<usize, Failed>
+    ensures { IfOk result (λ n. n ≤ length file.new) }
 {
     let mut chunk = [0u8; 4096];
     let mut n = 0;
     while n < file.len() {
-        let got = take(rt, name, from, &mut chunk);
-        let more = got.n;
+        let more = take(rt, name, from, &mut chunk)?;
         if more == 0 {
-            return Got { n, ok: got.ok };
+            break;
         }
         n = add(file, n, &chunk[..more]);
     }
-    Got { n, ok: true }
+    Ok(n)
 }
 
 // A byte more than a run file may have shows that it is too long.
 fn play<R: Read>(rt: HostRuntime, name: &[u8], from: &mut R) -> bool {
     let mut file = [0u8; 65537];
-    let got = read_file(rt, name, from, &mut file);
-    if !got.ok {
-        return true;
+    match read_file(rt, name, from, &mut file) {
+        Ok(n) => write_listing(rt, &file[..n]),
+        Err(_) => true,
     }
-    let n = got.n;
-    write_listing(rt, &file[..n])
 }
 
 fn play_input(rt: HostRuntime) -> bool {
@@ -90,11 +87,12 @@ fn play_file(rt: HostRuntime, name: &[u8]) -> bool {
     match open(rt, name) {
         Ok(mut file) => play(rt, name, &mut file),
         Err(error) => {
-            if name.len() == 0 {
-                fail(rt, b"empty file name", error);
+            let what = if name.is_empty() {
+                b"empty file name"
             } else {
-                fail(rt, name, error);
-            }
+                name
+            };
+            fail(rt, what, error);
             true
         }
     }
@@ -102,41 +100,35 @@ fn play_file(rt: HostRuntime, name: &[u8]) -> bool {
 
 // Whether an argument asks for help: -h, --help, or what begins so.
 fn is_help(word: &[u8]) -> bool {
-    if word.len() < 2 || word[0] != b'-' {
-        return false;
-    }
-    if word[1] != b'-' {
-        return word[1] == b'h';
-    }
-    2 < word.len() && word[2] == b'h'
+    word.starts_with(b"-h") || word.starts_with(b"--h")
 }
 
 // No file is played after an option.
 fn explain(rt: HostRuntime, option: &[u8]) {
     if is_help(option) {
-        put(rt, b"usage: night [FILE..]\n");
-        put(
+        let _ = put(rt, b"usage: night [FILE..]\n");
+        let _ = put(
             rt,
             b"Plays run files and writes their listings. No FILE, or -: standard input. See docs/NIGHT.md\n",
         );
         return;
     }
-    say(rt, b"night: no such option: ");
-    say(rt, option);
-    say(rt, b" (a file of that name is ./");
-    say(rt, option);
-    say(rt, b")\n");
+    say(rt.stderr(), b"night: no such option: ");
+    say(rt.stderr(), option);
+    say(rt.stderr(), b" (a file of that name is ./");
+    say(rt.stderr(), option);
+    say(rt.stderr(), b")\n");
 }
 
 fn play_word(rt: HostRuntime, word: &[u8]) -> bool {
-    if word.len() == 0 || word[0] != b'-' {
-        return play_file(rt, word);
+    match word {
+        [b'-'] => play_input(rt),
+        [b'-', ..] => {
+            explain(rt, word);
+            false
+        }
+        _ => play_file(rt, word),
     }
-    if word.len() == 1 {
-        return play_input(rt);
-    }
-    explain(rt, word);
-    false
 }
 
 fn play_argument(rt: HostRuntime, i: usize) -> bool {
@@ -156,8 +148,9 @@ fn main(rt: HostRuntime) {
         play_input(rt);
         return;
     }
-    let mut i = 1;
-    while i < words && play_argument(rt, i) {
-        i += 1;
+    for i in 1..words {
+        if !play_argument(rt, i) {
+            return;
+        }
     }
 }

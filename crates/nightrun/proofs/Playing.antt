@@ -122,16 +122,16 @@ along_begun k u = record { same = refl; rest = refl; place = refl; room = k.room
 module _ {b : Bench} {file : List ℕ} {w : Walk} {g : Gateway} {out₀ : List ℕ} {to₀ : ℕ} {out : List ℕ} {to at left : ℕ} {m : Machine}
     (a : Along b file w g out₀ to₀ out to at left m) where
   -- one record further: z are the bytes of the packet
-  pub along_played : {n : Words} {z : ℕ} {m' : Machine} {new : List ℕ} {r : ℕ} → 0 < left → CommandHere file at n → z ≡ twice n.0
-      → A.Plays b (turned b (meaning b m) (drop at file)) m' out to new r → Along b file w g out₀ to₀ new r (at + 5 + z) (left - 1) m'
-  along_played {n} {z} {m'} {new} {r} some h q p =
+  pub along_played : {n : Words} {z then : ℕ} {m' : Machine} {new : List ℕ} {r : ℕ} → left ≡ then + 1 → CommandHere file at n → z ≡ twice n.0
+      → A.Plays b (turned b (meaning b m) (drop at file)) m' out to new r → Along b file w g out₀ to₀ new r (at + 5 + z) then m'
+  along_played {n} {z} {then} {m'} {new} {r} some h q p =
       let o = turned b (meaning b m) (drop at file) in
       let ls : List (List ℕ) = command_lines b left (meaning b m) (drop at file) in
-      let ms : List (List ℕ) = command_lines b (left - 1) (meaning b m') (drop (at + 5 + z) file) in
+      let ms : List (List ℕ) = command_lines b then (meaning b m') (drop (at + 5 + z) file) in
       let here = command_there file at h in
       let k : o.line ∷ ms ≡ ls =
-      ap (λ (g : Gateway). o.line ∷ command_lines b (left - 1) g (drop (at + 5 + z) file)) p.after
-      ∙ sym (command_on b (meaning b m) file at left z some h.whole (omega (arith, q, h.size))) in
+      ap (λ (g : Gateway). o.line ∷ command_lines b then g (drop (at + 5 + z) file)) p.after
+      ∙ sym (command_on b (meaning b m) file at left then z some h.whole (omega (arith, q, h.size))) in
       let f : flat ls ≡ o.line ++ flat ms = sym (flat_more k) in
       record {
         same = put_length p.line ∙ a.same;

@@ -1,6 +1,6 @@
 -- The listing, one command further, broken or at its end.
 -- Assumes nothing.
-use Rattle.units.proofs.Common.{◌∙◌, ◌≡◌, ap, true, false, List, [], ◌∷◌, ◌++◌, ℕ, ◌-◌, ◌+◌, ◌<◌, suc, ◌*◌, zero, arith, length, drop}
+use Rattle.units.proofs.Common.{◌∙◌, ◌≡◌, ap, true, false, List, [], ◌∷◌, ◌++◌, ℕ, ◌+◌, ◌<◌, suc, ◌*◌, zero, arith, length, drop}
 use Rattle.units.proofs.Common.{drop-drop, eq-eqb, ne_eqb, yes_cond, no_cond}
 use Rattle.meaning.proofs.Terms.{Bench, Gateway}
 use Rattle.listing.specs.Records.{command_whole, command_length, command_size}
@@ -13,19 +13,18 @@ unfolding flat
 flat_more e = ap flat e
 
 module _ (b : Bench) (g : Gateway) (file : List ℕ) (at : ℕ) where
-  pub command_on : (k z : ℕ) → 0 < k → command_whole (drop at file) ≡ true → z ≡ 2 * command_length (drop at file)
+  pub command_on : (k then z : ℕ) → k ≡ then + 1 → command_whole (drop at file) ≡ true → z ≡ 2 * command_length (drop at file)
       → command_lines b k g (drop at file)
-      ≡ (turned b g (drop at file)).line ∷ command_lines b (k - 1) (turned b g (drop at file)).after (drop (at + 5 + z) file)
+      ≡ (turned b g (drop at file)).line ∷ command_lines b then (turned b g (drop at file)).after (drop (at + 5 + z) file)
   unfolding command_lines
-  command_on zero z h w e = absurd (omega arith)
-  command_on (suc k) z h w e =
+  command_on k then z h w e =
       let t = turned b g (drop at file) in
       let a : at + command_size (drop at file) ≡ at + 5 + z = omega (arith, e) in
-      let d : k ≡ suc k - 1 = omega arith in
-      yes_cond (broken_line ∷ []) w
-      ∙ ap (λ (z : List ℕ). t.line ∷ command_lines b k t.after z)
-      (drop-drop (command_size (drop at file)) at file ∙ ap (λ (z : ℕ). drop z file) a)
-      ∙ ap (λ (k : ℕ). t.line ∷ command_lines b k t.after (drop (at + 5 + z) file)) d
+      let d : k ≡ suc then = omega arith in
+      rw d
+      (yes_cond (broken_line ∷ []) w
+      ∙ ap (λ (z : List ℕ). t.line ∷ command_lines b then t.after z)
+      (drop-drop (command_size (drop at file)) at file ∙ ap (λ (z : ℕ). drop z file) a))
 
 module _ (b : Bench) (g : Gateway) (bs : List ℕ) where
   pub command_off : (k : ℕ) → 0 < k → command_whole bs ≡ false → command_lines b k g bs ≡ broken_line ∷ []

@@ -9,7 +9,7 @@ use asking::{hub_turn, reader_turn};
 use hearing::hear;
 use hearing::opening::Walk;
 use listingout::{put_broken, put_refused};
-use runfile::{CommandRecord, read_command};
+use runfile::read_command;
 use state::State;
 use units::{HUB, Words};
 
@@ -31,15 +31,13 @@ pub fn play(
     let mut packet = [0u16; Words::PACKET.0 as usize];
     let mut s = opened;
     let mut at = begun.at;
-    let mut left = begun.left;
     let mut to = start;
-    while 0 < left {
-        let CommandRecord::Command(size) = read_command(file, at) else {
+    for _ in 0..begun.left {
+        let Some(size) = read_command(file, at) else {
             return put_broken(out, to);
         };
         let h = hear(file, at, size, &mut packet);
         at = at + 5 + size.bytes().0 as usize;
-        left -= 1;
         if h.refusal != 0 {
             to = put_refused(out, to, h.refusal);
             continue;

@@ -1,113 +1,59 @@
 // Numbers, nodes and stamps, one field after another.
 #![tactic(auto)]
 
-ghost use Rattle.std.specs.Prelude.{◌≡◌, false, ◌&&◌, ◌+◌, ◌-◌, ◌*◌, ◌<◌, ◌≤◌};
-ghost use Rattle.units.specs.Count.{within};
-ghost use Rattle.numbers.specs.NumbersAt.{number_at, node_at, stamp_at};
+ghost use Rattle.std.specs.Prelude.{◌≡◌, ◌≤◌, IfSome};
+ghost use Rattle.numbers.specs.NumbersAt.{number_in, number_at, node_at, stamp_at};
 
-use fields::{field_end, goes_on};
+use fields::{Read, read_field};
 use units::stamp::Stamp;
 
-// Whether a field is a number within its limit, and which: what the definitions say of a field by itself.
-#[derive(Clone, Copy)]
-pub struct Number {
-    pub ok: bool,
-    pub value: u32,
-}
-
-// The same of the field at a place of the line, and the place of the field after it, past the line's end where there is none.
-#[derive(Clone, Copy)]
-pub struct NumberRead {
-    pub ok: bool,
-    pub value: u32,
-    pub next: usize,
-}
-
-#[derive(Clone, Copy)]
-pub struct NodeRead {
-    pub ok: bool,
-    pub node: u8,
-    pub next: usize,
-}
-
-#[derive(Clone, Copy)]
-pub struct StampRead {
-    pub ok: bool,
-    pub stamp: Stamp,
-    pub next: usize,
-}
-
-pub fn both(a: bool, b: bool) -> bool
-    ensures { result ≡ (a && b) }
+// A number has at most ten digits, and ten digits fit 64 bits.
+#[tactic(auto, using(crate::proofs::Numbers::digit_by_digit))]
+fn number_in(field: &[u8], most: u32) -> Option<u32>
+    ensures value { result ≡ number_in most field.now }
+    ensures within_limit { IfSome result (λ v. v ≤ most) }
 {
-    if a { b } else { false }
-}
-
-// A byte from one to another, both included.
-pub fn is_within(from: u8, to: u8, c: u8) -> bool
-    ensures { result ≡ within from to c }
-{
-    both(from <= c, c <= to)
-}
-
-// No number at a place, and the place of the field after it.
-fn no_number(next: usize) -> NumberRead
-    ensures { result ≡ record { ok = false; value = 0; next = next } }
-{
-    NumberRead {
-        ok: false,
-        value: 0,
-        next,
+    if !(1..=10).contains(&field.len()) {
+        return None;
     }
-}
-
-// One digit more. Ten of them fit 64 bits.
-fn with_digit(value: u64, c: u8) -> u64
-    requires { (value < 10000000000) × (48 ≤ c) × (c ≤ 57) }
-    ensures { result ≡ value * 10 + (c - 48) }
-{
-    value * 10 + (c - b'0') as u64
-}
-
-// In one pass: only behind a byte with which the field is no number its end is looked for.
-pub fn read_number(line: &[u8], at: usize, most: u32) -> NumberRead
-    ensures { result ≡ number_at most line.now at }
-{
-    if line.len() < at {
-        return no_number(at);
-    }
-    let mut value: u64 = 0;
-    let mut end = at;
-    while goes_on(line, end) {
-        let c = line[end];
-        if !both(end - at < 10, is_within(b'0', b'9', c)) {
-            return no_number(field_end(line, end + 1) + 1);
+    let mut value = 0;
+    for c in field {
+        if !c.is_ascii_digit() {
+            return None;
         }
-        value = with_digit(value, c);
-        end += 1;
+        value = value * 10 + u64::from(*c - b'0');
     }
-    if !both(1 <= end - at, value <= (most as u64)) {
-        return no_number(end + 1);
+    if u64::from(most) < value {
+        return None;
     }
-    NumberRead {
-        ok: true,
-        value: value as u32,
-        next: end + 1,
+    Some(value as u32)
+}
+
+#[tactic(auto, unfolding(crate::specs::NumbersAt::number_at), using(crate::proofs::Numbers::first_field))]
+pub fn read_number(line: &[u8], at: usize, most: u32) -> Read<u32>
+    ensures value { result ≡ number_at most line.now at }
+    ensures within_limit { IfSome result.value (λ v. v ≤ most) }
+{
+    let field = read_field(line, at);
+    Read {
+        value: field.value.and_then(|digits| number_in(digits, most)),
+        next: field.next,
     }
 }
 
-pub fn read_node(line: &[u8], at: usize) -> NodeRead
+#[tactic(auto, unfolding(crate::specs::NumbersAt::node_at))]
+pub fn read_node(line: &[u8], at: usize) -> Read<u8>
     ensures { result ≡ node_at line.now at }
 {
     let n = read_number(line, at, 255);
-    NodeRead {
-        ok: n.ok,
-        node: (n.value % 256) as u8,
+    Read {
+        value: n.value.map(|node| node as u8),
         next: n.next,
     }
 }
 
-pub fn read_stamp(line: &[u8], at: usize) -> StampRead
+#[tactic(auto, unfolding(crate::specs::NumbersAt::stamp_at))]
+pub fn read_stamp(line: &[u8], at: usize) -> Read<Stamp>
     ensures { result ≡ stamp_at line.now at }
 {
     let month = read_node(line, at);
@@ -115,19 +61,22 @@ pub fn read_stamp(line: &[u8], at: usize) -> StampRead
     let hour = read_node(line, day.next);
     let minute = read_node(line, hour.next);
     let second = read_node(line, minute.next);
-    let stamp = Stamp {
-        month: month.node,
-        day: day.node,
-        hour: hour.node,
-        minute: minute.node,
-        second: second.node,
+    let next = second.next;
+    let value = match (
+        month.value,
+        day.value,
+        hour.value,
+        minute.value,
+        second.value,
+    ) {
+        (Some(month), Some(day), Some(hour), Some(minute), Some(second)) => Some(Stamp {
+            month,
+            day,
+            hour,
+            minute,
+            second,
+        }),
+        _ => None,
     };
-    StampRead {
-        ok: both(
-            both(both(both(month.ok, day.ok), hour.ok), minute.ok),
-            second.ok,
-        ),
-        stamp,
-        next: second.next,
-    }
+    Read { value, next }
 }

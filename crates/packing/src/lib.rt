@@ -1,57 +1,26 @@
 // Bytes packed into words, and back.
 #![tactic(auto)]
 
-ghost use Rattle.std.specs.Prelude.{◌≡◌, ◌+◌, ◌<◌, min, length};
+ghost use Rattle.std.specs.Prelude.{◌≡◌};
 ghost use Rattle.std.proofs.lemmas.List.Edits.{sets};
-ghost use Rattle.units.specs.Packing.{packed, bytes_of, word_at};
+ghost use Rattle.units.specs.Packing.{packed, bytes_of};
 
-use units::word::{lsb, msb, word};
-
-fn least(a: usize, b: usize) -> usize
-    ensures { result ≡ min a b }
-{
-    if a < b {
-        return a;
-    }
-    b
-}
-
-// The i-th pair of bytes as a word, where it is known to be there: a loop over pairs has no test for it.
-fn pair_at(bytes: &[u8], i: usize) -> u16
-    requires { i + i + 1 < length bytes.now }
-    ensures { result ≡ word_at bytes.now i }
-{
-    let at = i + i;
-    word(bytes[at], bytes[at + 1])
-}
-
-// Packs the bytes into the front of out, as many words as it has room for; the words behind them stay. Two pairs a turn, both read before
-// one is written: the compiler does not know that bytes and out lie apart, and reads nothing ahead of a write.
+// Packs the bytes into the front of out, as many words as it has room for; the words behind them stay. By index, here and in `unpack`: a
+// proof knows nothing of what is written through a `zip` with `out.iter_mut()` or through `out.as_chunks_mut()`.
 pub fn pack(bytes: &[u8], out: &mut [u16])
     ensures { out.new ≡ sets out.old 0 (packed bytes.now) }
 {
     // Lent memory may be longer than a word can say, so a count of it is a usize and no Words.
-    let n = least(bytes.len() / 2, out.len());
-    let turns = n / 2;
-    let mut k = 0;
-    while k < turns {
-        let i = k + k;
-        let first = pair_at(bytes, i);
-        let second = pair_at(bytes, i + 1);
-        out[i] = first;
-        out[i + 1] = second;
-        k += 1;
-    }
-    let last = k + k;
-    if last < n {
-        out[last] = pair_at(bytes, last);
+    let (pairs, odd) = bytes.as_chunks::<2>();
+    let n = pairs.len().min(out.len());
+    for i in 0..n {
+        out[i] = u16::from_be_bytes(pairs[i]);
     }
     // The odd last byte stands in the MSB, and 00 follows.
-    let at = n + n;
-    if n < out.len() {
-        if at < bytes.len() {
-            out[n] = word(bytes[at], 0);
-        }
+    if let [b] = odd
+        && n < out.len()
+    {
+        out[n] = u16::from_be_bytes([*b, 0]);
     }
 }
 
@@ -59,20 +28,14 @@ pub fn pack(bytes: &[u8], out: &mut [u16])
 pub fn unpack(words: &[u16], out: &mut [u8])
     ensures { out.new ≡ sets out.old 0 (bytes_of words.now) }
 {
-    let n = least(words.len(), out.len() / 2);
-    let mut i = 0;
-    while i < n {
-        let at = i + i;
-        let w = words[i];
-        out[at] = msb(w);
-        out[at + 1] = lsb(w);
-        i += 1;
+    let n = words.len().min(out.len() / 2);
+    for i in 0..n {
+        let [msb, lsb] = words[i].to_be_bytes();
+        out[i + i] = msb;
+        out[i + i + 1] = lsb;
     }
     // The odd last byte is the MSB of a word; its LSB has no place.
-    let end = i + i;
-    if i < words.len() {
-        if end < out.len() {
-            out[end] = msb(words[i]);
-        }
+    if n < words.len() && n + n < out.len() {
+        out[n + n] = words[n].to_be_bytes()[0];
     }
 }

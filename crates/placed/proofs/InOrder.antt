@@ -6,7 +6,8 @@ use Rattle.units.proofs.Common.{every, and_true}
 use native.Mathlib.Nat.{add-suc, suc-add}
 use Rattle.meaning.proofs.Terms.{Bench, added, held}
 use Rattle.machine.proofs.Terms.{bounded}
-use Rattle.state.proofs.Lists.{get_d_any, every_get}
+use Rattle.std.proofs.lemmas.List.{get_or_default}
+use Rattle.state.proofs.Lists.{every_get}
 use Rattle.placed.specs.Consistent.{ok_answer, clear_of, spots, in_order, fine_lists, helds_of, count_right, list_clear, lists_ok}
 use Rattle.placed.specs.Walked.{words_of}
 use Rattle.placed.specs.Machine.{places_of, pending_of, node_of}
@@ -25,7 +26,7 @@ abbrev pub blank : Node
 blank = record { instance = 0; handover = 0; list = no_answers }
 
 pub node_any : (ns : List Node) (i : ℕ) → i < length ns → get_or ns i blank ≡ get_or ns i fresh_node
-node_any ns i h = get_d_any ns i blank fresh_node h
+node_any ns i h = get_or_default ns i blank fresh_node h
 
 module _ (b : Bench) (store : List ℕ) where
   -- each answer of a list in order is in order

@@ -12,7 +12,7 @@ use Rattle.placed.specs.State.{fresh_node}
 use Rattle.placed.specs.declared.Node.{Node}
 use Rattle.placed.specs.declared.Pending.{Pending}
 use Rattle.placed.proofs.InOrder.{list_at}
-use Rattle.state.proofs.Lists.{below_or}
+use Rattle.std.proofs.lemmas.Bool.{cases_lt}
 use Rattle.placed.proofs.Starts.{starts_tail}
 use Rattle.placed.specs.Marks.{Marked, Free, MarkWithin}
 
@@ -30,7 +30,7 @@ marked_more m m' p n k l = record {
   inside = λ w a b. ⊎_elim
       (λ (h : w < p + n). get_or-set_other m' (p + n) w true false (λ e. omega (arith, e)) ∙ k.inside w a h)
       (λ (h : p + n ≤ w). let e : w ≡ p + n = omega arith in rw e (get_or-set_same m' (p + n) true false l))
-      (below_or w (p + n));
+      (cases_lt w (p + n));
   below = λ w a. get_or-set_other m' (p + n) w true false (λ e. omega (arith, e)) ∙ k.below w a;
   above = λ w a. get_or-set_other m' (p + n) w true false (λ e. omega (arith, e)) ∙ k.above w (omega arith);
 }
@@ -69,7 +69,7 @@ module _ (store : List ℕ) where
       absurd (apart (simp (in_yes q (max q p) (omega arith) (omega arith))) (f (max q p) (omega arith) (omega arith))))
       (λ (h : min (q + get_or store q 0) (p + get_or store p 0) ≤ max q p).
       simp (le-ltb _ _ h) (clear_free qs p (λ w a b. (or_false (in_answer store q w) (covered store qs w) (f w a b)).1)))
-      (below_or _ _)
+      (cases_lt _ _)
 
   -- .. and one with a covered word shares one
   clear_taken : (qs : List ℕ) (p w : ℕ) → p ≤ w → w < p + get_or store p 0 → covered store qs w ≡ true → clear_of store qs p ≡ false
@@ -82,8 +82,8 @@ module _ (store : List ℕ) where
       (λ (k : w < q + get_or store q 0).
       let e : max q p < min (q + get_or store q 0) (p + get_or store p 0) = omega arith in simp (lt-ltb _ _ e))
       (λ (k : q + get_or store q 0 ≤ w). simp (clear_taken qs p w a b (rw (in_above q w k) at h), and-false))
-      (below_or w (q + get_or store q 0)))
-      (below_or w q)
+      (cases_lt w (q + get_or store q 0)))
+      (cases_lt w q)
 
 -- ---- the walk: m marks the words of the answers passed, and the lists are fine exactly if the rest is in order
 pub record Walk (b : Bench) (size : ℕ) (store : List ℕ) (ns : List Node) (m : List Bool) (rest : List (ℕ × ℕ)) : Type 0 where
@@ -144,8 +144,8 @@ module _ (b : Bench) (size : ℕ) (store : List ℕ) (ns : List Node) where
             (λ (g : p ≤ w). ⊎_elim
             (λ (q : w < p + get_or store p 0). v.inside w g q ∙ simp (in_yes store p w g q))
             (λ (q : p + get_or store p 0 ≤ w). v.above w q ∙ k.same w a ∙ simp (in_above store p w q))
-            (below_or w (p + get_or store p 0)))
-            (below_or w p);
+            (cases_lt w (p + get_or store p 0)))
+            (cases_lt w p);
         goes = k.goes ∙ simp (h, clear_free store k.past p (λ w a c. sym (k.same w (omega arith)) ∙ u w a c));
       }
 

@@ -19,33 +19,6 @@ use state::node::Node;
 use state::reader::Reader;
 use units::{Bytes, NODES, READERS, Words};
 
-// Copies all of src into dst from a place on.
-pub fn copy_bytes(src: &[u8], dst: &mut [u8], to: usize)
-    requires { to + length src.now ≤ length dst.old }
-    ensures { dst.new ≡ paste dst.old to src.now (length src.now) }
-{
-    let mut j = 0;
-    while j < src.len() {
-        let o = to + j;
-        dst[o] = src[j];
-        j += 1;
-    }
-}
-
-// An ID by value.
-fn eight(id: &[u8]) -> [u8; Bytes::ID.0 as usize]
-    requires { length id.now ≡ 8 }
-    ensures { result ≡ id.now }
-{
-    let mut a = [0u8; Bytes::ID.0 as usize];
-    let mut j: usize = 0;
-    while j < Bytes::ID.0 as usize {
-        a[j] = id[j];
-        j += 1;
-    }
-    a
-}
-
 // A plaque leaves, on the parts of its reader.
 pub fn left(own: Node, x: Reader, held: [Words; NODES]) -> Seated
     ensures { (n : ℕ) (store memory : List ℕ) → is_reader full n ≡ true
@@ -85,8 +58,10 @@ pub fn brought(
         plaques.old result store plaques.new }
 {
     let i = (node - 1) as usize;
-    let y = x.arrived(eight(id), Bytes(bytes.len() as u16));
-    copy_bytes(bytes, plaques, i * Bytes::REGION.0 as usize);
+    let id = <[u8; 8]>::try_from(id).unwrap();
+    let y = x.arrived(id, Bytes(bytes.len() as u16));
+    let start = i * Bytes::REGION.0 as usize;
+    plaques[start..start + bytes.len()].copy_from_slice(bytes);
     Seated {
         node: own,
         held,
@@ -144,8 +119,10 @@ pub fn arrive(
         return refused(s, 10);
     }
     let x = s.readers[i];
-    let y = x.arrived(eight(id), Bytes(bytes.len() as u16));
-    copy_bytes(bytes, plaques, i * Bytes::REGION.0 as usize);
+    let id = <[u8; 8]>::try_from(id).unwrap();
+    let y = x.arrived(id, Bytes(bytes.len() as u16));
+    let start = i * Bytes::REGION.0 as usize;
+    plaques[start..start + bytes.len()].copy_from_slice(bytes);
     let mut t = s;
     t.readers[i] = y;
     Called {

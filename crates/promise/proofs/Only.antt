@@ -20,7 +20,8 @@ use Rattle.state.specs.declared.reader.Reader.{Reader}
 use Rattle.state.specs.declared.node.Node.{Node}
 use Rattle.state.specs.declared.Name.{Name}
 use Rattle.state.specs.declared.State.{State}
-use Rattle.state.proofs.Lists.{both, below_or}
+use Rattle.std.proofs.lemmas.Bool.{cases_lt}
+use Rattle.state.proofs.Lists.{both}
 use Rattle.machine.proofs.Read.{one_content}
 use Rattle.promise.specs.Obeyed as O
 use Rattle.promise.specs.Obeyed.{said_of, is_refusal, Does, Obeyed}
@@ -205,7 +206,7 @@ record Numbered (b : Bench) (i : ℕ) : Type 0 where
   slot : node_slot b node ≡ i
 
 index_node : (b : Bench) → Sound b → (i : ℕ) → i < b.readers + 1 → Numbered b i
-index_node b ok i h = by_place (below_or i b.readers)
+index_node b ok i h = by_place (cases_lt i b.readers)
   where
     by_place : (i < b.readers) ⊎ (b.readers ≤ i) → Numbered b i
     by_place (inl l) =

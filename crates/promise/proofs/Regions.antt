@@ -7,7 +7,7 @@ use native.Mathlib.Nat.{mul-le-mul_right}
 use lib.Seq.{length-slice, length-paste, length_paste_head}
 use Rattle.meaning.proofs.Terms.{Bench, is_reader}
 use Rattle.machine.proofs.Terms.{region_of}
-use Rattle.state.proofs.Lists.{below_or}
+use Rattle.std.proofs.lemmas.Bool.{cases_lt}
 use Rattle.promise.proofs.Tables.{reader_range}
 
 -- ---- a paste, read
@@ -54,8 +54,8 @@ module _ (d : List ℕ) (a r start : ℕ) (s : List ℕ) (k : ℕ) (inside : a +
   part_own =
       ext_get_or 0 (slice a (a + r) after) (paste (slice a (a + r) d) start s k)
       (own ∙ sym (length-paste (slice a (a + r) d) start s k (omega (arith, old)) has ∙ old))
-      (λ i h. let h' : i < r = omega (arith, own) in part_at after a (a + r) i (omega arith) ∙ each i h' (below_or i start)
-      (below_or i (start + k)))
+      (λ i h. let h' : i < r = omega (arith, own) in part_at after a (a + r) i (omega arith) ∙ each i h' (cases_lt i start)
+      (cases_lt i (start + k)))
     where
       old : length (slice a (a + r) d) ≡ r
       old = length-slice a (a + r) d inside ∙ omega arith
@@ -95,7 +95,7 @@ row_end zero r h = absurd (omega arith)
 row_end (suc n) r h = let e : suc n - 1 ≡ n = omega arith in rw e (omega arith)
 
 apart : (j n : ℕ) → (j ≡ n → ⊥) → (j < n) ⊎ (n < j)
-apart j n d = either (below_or j n) (below_or n j)
+apart j n d = either (cases_lt j n) (cases_lt n j)
   where
     either : (j < n) ⊎ (n ≤ j) → (n < j) ⊎ (j ≤ n) → (j < n) ⊎ (n < j)
     either (inl p) q = inl p

@@ -11,7 +11,8 @@ use Rattle.demands.specs.Demand.{Bounds}
 use Rattle.demands.proofs.Room.{put_same, held_joined}
 use Rattle.machine.proofs.Terms.{Machine, machine, meaning, seen, node_slot, nodes_in, nodes_of, plain, counts, charges_of, bounded, unfit}
 use Rattle.state.specs.declared.State.{State}
-use Rattle.state.proofs.Lists.{both, map_set, every_get}
+use Rattle.std.proofs.lemmas.List.{map-set}
+use Rattle.state.proofs.Lists.{both, every_get}
 use Rattle.machine.proofs.Read.{packed_of}
 use Rattle.lists.specs.Room.{room_for}
 use Rattle.lists.proofs.Charges.{charges_more}
@@ -97,7 +98,7 @@ module _ (b : Bench) (m : Machine) (n : ℕ) (w : List ℕ) (is : is_node b n �
       cc (held_joined w ((meaning b m).nodes n), held_in) in
       let c : charges b (join n w (meaning b m)) ≡ charges_of b.share (set hs i (get_or hs i 0 + length w)) =
       charges_table b ok (join n w (meaning b m)) (set ns i y) (length-set ns i y ∙ many b m p) join_table
-      ∙ ap (charges_of b.share) (map_set held ns i y ∙ ap (λ (l : List ℕ). set l i (held y)) (sym helds_are) ∙ ap (set hs i) a) in
+      ∙ ap (charges_of b.share) (map-set held ns i y ∙ ap (λ (l : List ℕ). set l i (held y)) (sym helds_are) ∙ ap (set hs i) a) in
       let d : held ((join n w (meaning b m)).nodes n) ≡ get_or hs i 0 + length w = ap held (put_same n y (meaning b m).nodes) ∙ a in
       rw (d, c)
 

@@ -1,10 +1,10 @@
-// The bytes that are left at a position, and the record that they begin with: broken where they are too few for it.
+// The bytes that are left at a position, and the record that they begin with: none where they are too few for it.
 ghost use Rattle.std.specs.Prelude.{◌≡◌, ◌+◌, ◌≤◌, length, drop};
 ghost use Rattle.meaning.specs.Bench.{full};
 ghost use Rattle.listing.specs.Records.{two};
 ghost use Rattle.runfile.specs.Records.{count_of, plaque_of, command_of};
 
-use crate::{CommandRecord, CountRecord, PlaqueRecord};
+use crate::PlaqueRecord;
 use units::word::word;
 use units::{Bytes, LAST_READER, Words};
 
@@ -12,10 +12,7 @@ use units::{Bytes, LAST_READER, Words};
 pub fn rest_at(bytes: &[u8], at: usize) -> &[u8]
     ensures { result.now ≡ drop at bytes.now }
 {
-    if bytes.len() < at {
-        return &bytes[..0];
-    }
-    &bytes[at..]
+    bytes.get(at..).unwrap_or(&[])
 }
 
 fn two_at(rest: &[u8], i: usize) -> u16
@@ -27,47 +24,50 @@ fn two_at(rest: &[u8], i: usize) -> u16
     word(msb, lsb)
 }
 
-pub fn count_of(rest: &[u8]) -> CountRecord
+#[tactic(auto, unfolding(crate::specs::Records::count_of, listing::specs::Records::count_whole))]
+pub fn count_of(rest: &[u8]) -> Option<u16>
     ensures { result ≡ count_of rest.now }
 {
     if rest.len() < 2 {
-        return CountRecord::Broken;
+        return None;
     }
-    CountRecord::Count(two_at(rest, 0))
+    Some(two_at(rest, 0))
 }
 
-pub fn plaque_of(rest: &[u8]) -> PlaqueRecord
+#[tactic(auto, unfolding(crate::specs::Records::plaque_of, listing::specs::Records::plaque_whole))]
+pub fn plaque_of(rest: &[u8]) -> Option<PlaqueRecord>
     ensures { result ≡ plaque_of full rest.now }
 {
     if rest.len() < 11 {
-        return PlaqueRecord::Broken;
+        return None;
     }
     let node = rest[0];
     if node < 1 || LAST_READER < node {
-        return PlaqueRecord::Broken;
+        return None;
     }
     let length = Bytes(two_at(rest, 1));
     if length.0 < 1 || Bytes::REGION.0 < length.0 {
-        return PlaqueRecord::Broken;
+        return None;
     }
     if rest.len() < 11 + length.0 as usize {
-        return PlaqueRecord::Broken;
+        return None;
     }
-    PlaqueRecord::Plaque { node, length }
+    Some(PlaqueRecord { node, length })
 }
 
-pub fn command_of(rest: &[u8]) -> CommandRecord
+#[tactic(auto, unfolding(crate::specs::Records::command_of, listing::specs::Records::command_whole))]
+pub fn command_of(rest: &[u8]) -> Option<Words>
     ensures { result ≡ command_of rest.now }
 {
     if rest.len() < 7 {
-        return CommandRecord::Broken;
+        return None;
     }
     let words = Words(two_at(rest, 5));
     if words.0 < Words::FIXED.0 || Words::PACKET.0 < words.0 {
-        return CommandRecord::Broken;
+        return None;
     }
     if rest.len() < 5 + words.bytes().0 as usize {
-        return CommandRecord::Broken;
+        return None;
     }
-    CommandRecord::Command(words)
+    Some(words)
 }

@@ -13,24 +13,11 @@ use units::{Bytes, Words};
 // No run file is longer.
 pub const LONGEST_FILE: usize = 65536;
 
-#[derive(Clone, Copy)]
-pub enum CountRecord {
-    Count(u16),
-    Broken,
-}
-
 // A plaque's node, and the length of its bytes, which begin 11 bytes after the record does.
 #[derive(Clone, Copy)]
-pub enum PlaqueRecord {
-    Plaque { node: u8, length: Bytes },
-    Broken,
-}
-
-// A command's Overall Length; its words begin 5 bytes after the record does.
-#[derive(Clone, Copy)]
-pub enum CommandRecord {
-    Command(Words),
-    Broken,
+pub struct PlaqueRecord {
+    pub node: u8,
+    pub length: Bytes,
 }
 
 #[derive(Clone, Copy)]
@@ -48,27 +35,23 @@ impl<'a> RunFile<'a> {
     }
 }
 
-// With plain parameters, so that whoever calls this needs no walk by hand.
-fn rest_of<'a>(bytes: &'a [u8], at: usize) -> &'a [u8]
-    ensures { result.now ≡ drop at bytes.now }
-{
-    RunFile { bytes, at }.rest()
-}
-
-pub fn read_count(bytes: &[u8], at: usize) -> CountRecord
+// The count at a position, where it is not broken.
+pub fn read_count(bytes: &[u8], at: usize) -> Option<u16>
     ensures { result ≡ count_of (drop at bytes.now) }
 {
-    count_of(rest_of(bytes, at))
+    count_of(RunFile { bytes, at }.rest())
 }
 
-pub fn read_plaque(bytes: &[u8], at: usize) -> PlaqueRecord
+// The plaque at a position, where its record is not broken.
+pub fn read_plaque(bytes: &[u8], at: usize) -> Option<PlaqueRecord>
     ensures { result ≡ plaque_of full (drop at bytes.now) }
 {
-    plaque_of(rest_of(bytes, at))
+    plaque_of(RunFile { bytes, at }.rest())
 }
 
-pub fn read_command(bytes: &[u8], at: usize) -> CommandRecord
+// The Overall Length of the command at a position, where its record is not broken. The command's words begin 5 bytes after the record does.
+pub fn read_command(bytes: &[u8], at: usize) -> Option<Words>
     ensures { result ≡ command_of (drop at bytes.now) }
 {
-    command_of(rest_of(bytes, at))
+    command_of(RunFile { bytes, at }.rest())
 }

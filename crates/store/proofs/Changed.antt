@@ -14,7 +14,8 @@ use Rattle.machine.proofs.Terms.{bounded, counts}
 use Rattle.state.specs.State.{reset_node}
 use Rattle.state.specs.declared.node.Node.{Node}
 use Rattle.machine.proofs.Formed.{formed_says, added_append}
-use Rattle.state.proofs.Lists.{both, map_set, every_get, every_set, every_more}
+use Rattle.std.proofs.lemmas.List.{map-set}
+use Rattle.state.proofs.Lists.{both, every_get, every_set, every_more}
 use Rattle.machine.proofs.Read.{first_word, length_laid, node_for, Packed}
 use Rattle.moves.specs.Moved.{inserted, removed}
 use Rattle.moves.proofs.Moves.{inserted_at, removed_at}
@@ -146,8 +147,8 @@ module _ (b : Bench) (store : List ℕ) (ns : List Node) (hs : List Words) (ms :
         → Packed b store' (set ns i n) (set hs i (record { 0 = v })) (set ms i x)
     packed_set x n v store' z e g w l f o = record {
       size = l;
-      nodes = rw (p.nodes, e) (sym (map_set node_for ms i x));
-      helds = map_set (λ (w : Words). w.0) hs i (record { 0 = v }) ∙ rw (p.helds, g) (sym (map_set held ms i x));
+      nodes = rw (p.nodes, e) (sym (map-set node_for ms i x));
+      helds = map-set (λ (w : Words). w.0) hs i (record { 0 = v }) ∙ rw (p.helds, g) (sym (map-set held ms i x));
       spare = z;
       words = w ∙ rw (all_set ms i x h) (simp append_assoc);
       formed = formed_set b 0 ms i x p.formed (rw zero-add f);
@@ -247,7 +248,7 @@ module _ (b : Bench) (store : List ℕ) (ns : List Node) (hs : List Words) (ms :
           let k : i < length (map held ms) = rw length-map h in
           packed_set x _ _ _ (length a + p.spare) (rw (node_is, c)) (rw (held_is, oldest_held) (omega (arith, y))) w l
           (rw q oldest_formed.1)
-          (rw map_set (less_bounded b (map held ms) i (held x) k (omega (arith, g, oldest_held, y)) p.bounds))
+          (rw map-set (less_bounded b (map held ms) i (held x) k (omega (arith, g, oldest_held, y)) p.bounds))
 
 -- ---- all lists emptied
 -- g is for a node what the sweep z is for what it means; nothing is pending after it

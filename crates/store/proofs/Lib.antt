@@ -1,5 +1,4 @@
 -- Laws that belong to no one function.
 pub mod Changed
 pub mod Promised
-pub mod Loops
 pub mod Enlisting

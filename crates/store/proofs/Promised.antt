@@ -11,7 +11,8 @@ use Rattle.machine.specs.Layout.{front}
 use Rattle.state.specs.declared.node.Node.{Node}
 use Rattle.state.specs.declared.State.{State}
 use Rattle.machine.proofs.Formed.{formed_least, formed_most, formed_says, added_append}
-use Rattle.state.proofs.Lists.{both, map_set, every_set}
+use Rattle.std.proofs.lemmas.List.{map-set}
+use Rattle.state.proofs.Lists.{both, every_set}
 use Rattle.machine.proofs.Read.{blank, node_any, front_is, least_added, length_nodes, Packed, packed_of, packed_means, packed_ok}
 use Rattle.moves.specs.Moved.{inserted, removed}
 use Rattle.moves.proofs.Moves.{removed_at}
@@ -115,7 +116,7 @@ module _ (b : Bench) (store : List ℕ) (s : State) (ok : Sound b store s) where
           let g : get_or (map held ms) i 0 ≡ held (get_or ms i plain) = get_or-map held ms i plain in
           let f = formed_says b (node_at b i) a j.answer in
           let e : set hs i (get_or hs i 0 + length a) ≡ map held (set ms i (joined a (get_or ms i plain))) =
-          rw (packed_sound.helds, g, map_set, added_append, f, add-zero) in
+          rw (packed_sound.helds, g, map-set, added_append, f, add-zero) in
           rw e at after_bounded
 
       pub join : (k : ℕ) → k ≡ length ns → Join a k

@@ -38,42 +38,34 @@ fn sweep(broom: Broom, n: Node) -> Node
 pub fn swept(broom: Broom, nodes: [Node; NODES]) -> [Node; NODES]
     ensures { result ≡ map (swept_node broom) nodes }
 {
-    let mut ns = nodes;
-    let mut k: usize = 0;
-    while k < NODES {
-        let n = nodes[k];
-        let m = sweep(broom, n);
-        ns[k] = m;
-        k += 1;
-    }
-    ns
+    nodes.map(|n| sweep(broom, n))
 }
 
 // The words that the nodes hold when they are swept.
+#[tactic(auto, unfolding(crate::specs::Swept::swept_words))]
 pub fn swept_words(broom: Broom, held: [Words; NODES]) -> [Words; NODES]
     ensures { result ≡ swept_words broom held }
 {
     match broom {
         Broom::Nothing => held,
-        _ => [Words(0); NODES],
+        Broom::Clear | Broom::Reset => [Words(0); NODES],
     }
 }
 
 // The words that were held become 0 where the lists are swept, so that the whole store is.
+#[tactic(auto, unfolding(crate::specs::Swept::swept_store))]
 pub fn sweep_store(broom: Broom, held: [Words; NODES], store: &mut [u16])
     requires { place_of (counts held) (node_count full) ≤ length store.old }
     ensures { store.new ≡ swept_store broom held store.old }
 {
     match broom {
         Broom::Nothing => {}
-        _ => {
-            let end = place_of(held, NODES);
-            remove(store, 0, end, end);
-        }
+        Broom::Clear | Broom::Reset => store[..place_of(held, NODES)].fill(0),
     }
 }
 
 // An answer that has room joins behind the last of the node at index i; what lies behind moves up.
+#[tactic(auto, using(crate::proofs::Enlisting::place_ordered, state::proofs::Lists::length_mapped))]
 pub fn join(held: [Words; NODES], i: usize, answer: &[u16], store: &mut [u16])
     requires { (i < node_count full) × (place_of (counts held) (node_count full) + length answer.now ≤ length store.old) }
     ensures { store.new ≡ inserted store.old (place_of (counts held) (i + 1))
@@ -102,8 +94,7 @@ pub fn take(held: [Words; NODES], i: usize, store: &mut [u16]) -> [Words; NODES]
     let end = place_of(held, NODES);
     let words = store[at];
     remove(store, at, end, words as usize);
-    let mut hs = held;
-    let h = hs[i];
-    hs[i] = Words(h.0 - words);
-    hs
+    let mut left = held;
+    left[i].0 -= words;
+    left
 }

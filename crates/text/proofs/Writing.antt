@@ -1,10 +1,12 @@
 -- Laws of writing: one text after another, how long a text is, and the turns of the loops.
 -- Assumes nothing.
-use Rattle.units.proofs.Common.{sym, ◌∙◌, ◌≡◌, refl, ap, subst, true, cond, List, [], ◌∷◌, ◌++◌, ℕ, ◌≤◌, ◌-◌, ◌+◌, ◌<◌, suc, ◌*◌, zero, ◌%◌}
-use Rattle.units.proofs.Common.{◌^◌, ◌/◌, add-one, ℕ_discrete, arith, ltb, length, drop, get_or, take, set, length-append, length-take, sets}
-use Rattle.units.proofs.Common.{slice, take_at, drop_at, drop-cons, sets-eq, le-ltb, lt-ltb, yes_cond, no_cond}
+use Rattle.units.proofs.Common.{sym, ◌∙◌, ◌≡◌, refl, ap, subst, true, cond, List, [], ◌∷◌, ◌++◌, ℕ, ◌≤◌, ◌-◌, ◌+◌, ◌<◌, suc, ◌*◌, zero}
+use Rattle.units.proofs.Common.{◌%◌, ◌^◌, ◌/◌, add-one, ℕ_discrete, arith, ltb, length, drop, get_or, take, set, length-append, length-take}
+use Rattle.units.proofs.Common.{sets, append-nil, append_assoc, drop-drop, slice, take_at, drop_at, drop-cons, sets-eq, le-ltb, lt-ltb}
+use Rattle.units.proofs.Common.{yes_cond, no_cond}
 use native.Mathlib.Nat.{pow-succ', mod-eq_of_lt, add-mul-mod_self_left}
 use lib.Seq.{length-sets, set-set}
+use borrow.Rule.Slice.PartMut.{put_mid}
 use Rattle.units.proofs.PackingLaws.{sets_append}
 use Rattle.text.specs.Text.{Put, digit_of, hex_of, byte_hex_of, bytes_hex_of, decimal_within, decimal_of, words_line}
 
@@ -63,6 +65,11 @@ digit_small d h = rw (← (digit_is d h)) (omega arith)
 pub lowest : (m : ℕ) {n k : ℕ} (h : ℕ) → n ≡ k + m * h → k < m → n % m ≡ k
 lowest m {n} {k} h e l = ap (λ (x : ℕ). x % m) e ∙ add-mul-mod_self_left k m h ∙ mod-eq_of_lt l
 
+-- what is copied into a part of an output is written there
+pub copied : (a k : ℕ) (x : List ℕ) {ys text : List ℕ} → ys ≡ text → k ≡ length text → a + k ≤ length x → put_mid a k x ys ≡ sets x a text
+copied a k x {ys} {text} e n h =
+    rw (e, n, drop-drop (length text) a x, ← append_assoc) (sym (sets-eq text x a (omega arith)))
+
 -- lengths
 pub length_hex : (w : ℕ) → length (hex_of w) ≡ 4
 unfolding hex_of
@@ -120,13 +127,23 @@ decimal_short (suc k) n h =
           rw (decimal_more n (omega arith)) (simp length-append (omega arith))
     ]
 
+-- any that a word says has at most five
+pub decimal_five : (n : ℕ) → n < 10 ^ 5 → length (decimal_of n) ≤ 5
+decimal_five n h = decimal_short 4 n h
+
 -- the turns of the loops: the text of what is left is that of its first element, then that of the rest
 pub text_next : (xs : List ℕ) (i : ℕ) → i < length xs → drop i xs ≡ get_or xs i 0 ∷ drop (i + 1) xs
 text_next xs i h = rw (add-one i) (drop-cons xs i 0 h)
 
-pub bytes_next : (bs : List ℕ) (i : ℕ) → i < length bs → bytes_hex_of (drop i bs) ≡ byte_hex_of (get_or bs i 0) ++ bytes_hex_of (drop (i + 1) bs)
+-- the text of one byte more
+pub bytes_more : (bs : List ℕ) (i : ℕ) → i < length bs
+    → bytes_hex_of (take (i + 1) bs) ≡ bytes_hex_of (take i bs) ++ byte_hex_of (get_or bs i 0)
 unfolding bytes_hex_of
-bytes_next bs i h = ap bytes_hex_of (text_next bs i h)
+bytes_more [] i h = absurd (omega arith)
+bytes_more (b ∷ bs) zero h = append-nil (byte_hex_of b)
+bytes_more (b ∷ bs) (suc i) h =
+    let more = rw (add-one i) at (bytes_more bs i (omega arith)) in
+    rw (add-one (suc i), append_assoc) (ap (λ (x : List ℕ). byte_hex_of b ++ x) more)
 
 -- words, a blank after each: a line of words before its last byte is set
 unfoldable pub spaced : List ℕ → List ℕ
@@ -138,10 +155,14 @@ unfolding spaced
 length_spaced [] = refl
 length_spaced (w ∷ ws) = simp length-append (omega (arith, length_hex w, length_spaced ws))
 
-pub words_next : (ws : List ℕ) (i : ℕ) → i < length ws
-    → spaced (drop i ws) ≡ (hex_of (get_or ws i 0) ++ (32 ∷ [])) ++ spaced (drop (i + 1) ws)
-unfolding spaced
-words_next ws i h = ap spaced (text_next ws i h)
+pub words_more : (ws : List ℕ) (i : ℕ) → i < length ws
+    → spaced (take (i + 1) ws) ≡ spaced (take i ws) ++ (hex_of (get_or ws i 0) ++ (32 ∷ []))
+unfolding spaced hex_of
+words_more [] i h = absurd (omega arith)
+words_more (w ∷ ws) zero h = append-nil (hex_of w ++ (32 ∷ []))
+words_more (w ∷ ws) (suc i) h =
+    let more = rw (add-one i) at (words_more ws i (omega arith)) in
+    rw (add-one (suc i), append_assoc) (ap (λ (x : List ℕ). (hex_of w ++ (32 ∷ [])) ++ x) more)
 
 line_fed : (ws o : List ℕ) (at k : ℕ) → 0 < length ws → k + 1 ≡ at + 5 * length ws
     → set (sets o at (spaced ws)) k 10 ≡ sets o at (words_line ws)

@@ -6,7 +6,7 @@ use dialogout::{LONGEST_ANSWER, put_handed};
 use gateway::{acknowledge, arrive, collect, command};
 use promise::Handout;
 use state::State;
-use streams::show as put;
+use streams::say as put;
 use units::stamp::Stamp;
 use units::{Bytes, Form, Words};
 use wordsout::put_words;
@@ -18,7 +18,7 @@ fn say(rt: HostRuntime, words: &[u16]) {
     let mut line = [0u8; 675];
     let n = put_words(&mut line, 0, words);
     if n <= 675 {
-        put(rt, &line[..n]);
+        put(rt.stdout(), &line[..n]);
     }
 }
 
@@ -68,10 +68,8 @@ fn visit(rt: HostRuntime, s: State, node: u8, store: &mut [u16], plaques: &mut [
 
 fn visit_readers(rt: HostRuntime, s: State, store: &mut [u16], plaques: &mut [u8]) -> State {
     let mut t = s;
-    let mut node: u8 = 1;
-    while node <= 16 {
+    for node in 1..=16 {
         t = visit(rt, t, node, store, plaques);
-        node += 1;
     }
     t
 }
@@ -99,17 +97,15 @@ fn show(rt: HostRuntime, s: State, store: &[u16], plaques: &[u8]) {
     let mut line = [0u8; LONGEST_ANSWER];
     let end = put_handed(&mut line, 0, number, Form::Framed, 32, &out[..n]);
     if end <= LONGEST_ANSWER {
-        put(rt, &line[..end]);
+        put(rt.stdout(), &line[..end]);
     }
 }
 
 // The last handover number, and the one that follows it.
 fn go_around(rt: HostRuntime, store: &mut [u16], plaques: &mut [u8]) {
     let mut s = state::fresh(store);
-    let mut k: u32 = 0;
-    while k < 65535 {
+    for _ in 0..65535 {
         s = clear(s, store, plaques);
-        k += 1;
     }
     show(rt, s, store, plaques);
     s = clear(s, store, plaques);

@@ -4,7 +4,7 @@
 ghost use Rattle.std.specs.Prelude.{◌≡◌, ◌+◌, ◌*◌, ◌/◌, ◌%◌, ◌≤◌, length};
 ghost use Rattle.text.specs.Text.{Put, digit_of, hex_of, words_line};
 
-use text::put;
+use text::{put, put_text};
 
 // A word's four digits, made at once and written by one store: the bytes of one number, the first digit's the lowest. Each is made as
 // `text::digit` makes it: 6 more carry into the upper half of its byte from 10 on.
@@ -26,12 +26,7 @@ pub fn put_hex(out: &mut [u8], at: usize, w: u16) -> usize
     requires { at + 4 ≤ length out.old }
     ensures { Put out.old at (hex_of w) out.new result }
 {
-    let f = digits(w);
-    out[at] = (f % 256) as u8;
-    out[at + 1] = (f / 256 % 256) as u8;
-    out[at + 2] = (f / 65536 % 256) as u8;
-    out[at + 3] = (f / 16777216) as u8;
-    at + 4
+    put_text(out, at, &digits(w).to_le_bytes())
 }
 
 // Words as the end of a line: a blank after each, and in the last one's place a line feed.
@@ -39,17 +34,14 @@ pub fn put_words(out: &mut [u8], at: usize, words: &[u16]) -> usize
     requires { at + 5 * length words.now ≤ length out.old }
     ensures { Put out.old at (words_line words.now) out.new result }
 {
-    let n = words.len();
-    let mut i = 0;
     let mut to = at;
-    while i < n {
-        to = put_hex(out, to, words[i]);
-        to = put(out, to, 32);
-        i += 1;
+    for w in words {
+        to = put_hex(out, to, *w);
+        to = put(out, to, b' ');
     }
-    if n == 0 {
+    if words.is_empty() {
         return to;
     }
-    out[to - 1] = 10;
+    out[to - 1] = b'\n';
     to
 }

@@ -5,6 +5,6 @@ use Rattle.meaning.proofs.Terms.{full}
 use Rattle.blank.proofs.Blank.{blank_fit}
 use Rattle.console.proofs.play_into.Goals as goal
 
-pub loop-pieces-init : goal.loop-pieces-init
-loop-pieces-init c =
+pub loop-init : goal.loop-init
+loop-init c =
     (refl, refl, omega arith, blank_fit _ (replicate full.store 0) _ (length-replicate {A = ℕ} full.store 0) c.fresh-s.ensures)

@@ -4,7 +4,6 @@ use Rattle.units.specs.declared.Words.{Words}
 use Rattle.meaning.proofs.Terms.{full}
 use Rattle.machine.specs.Machine as N
 use Rattle.state.specs.declared.node.Node.{Node}
-use lib.Seq.{sets}
 use Rattle.placed.specs.Machine.{machine}
 use Rattle.placed.specs.Consistent.{unfit}
 use Rattle.placed.proofs.Parts.{Parts, parts}
@@ -33,8 +32,8 @@ lay-requires c =
     let p = known in
     ((λ k h. each_inside full c.args.store.now c.args.s.nodes p.lists k h), room)
 
-pub copy_in-requires : goal.copy_in-requires
-copy_in-requires c =
+pub copy_from_slice-requires : goal.copy_from_slice-requires
+copy_from_slice-requires c =
     let fits : unfit full ((machine c.args.s c.args.store.now c.args.plaques.now)) ≡ 0 = sym c.unfit-refusal.ensures ∙ c.if-refusal-ne0.false in
     let known : Parts full ((machine c.args.s c.args.store.now c.args.plaques.now)) = parts full ((machine c.args.s c.args.store.now c.args.plaques.now)) (fits) in
     let w : length c.lay.new.out ≡ 4096 = search rules in
@@ -57,15 +56,10 @@ pub returns : goal.returns
 returns c =
     let fits : unfit full ((machine c.args.s c.args.store.now c.args.plaques.now)) ≡ 0 = sym c.unfit-refusal.ensures ∙ c.if-refusal-ne0.false in
     let known : Parts full ((machine c.args.s c.args.store.now c.args.plaques.now)) = parts full ((machine c.args.s c.args.store.now c.args.plaques.now)) (fits) in
-    let room : length (runs_of c.args.store.now
-    c.args.s.nodes) ≤ 4096 = let a = c.args in
-    let p = known in runs_fit full a.store.now a.s.nodes p.store p.lists in
     let st = c.args.store.now in
     let ns = c.args.s.nodes in
-    let z : replicate {A = ℕ} 4096 0 ≡ replicate (length st) 0 = ap (λ (n : ℕ). replicate n 0) (sym (known).store) in
-    let w : c.copy_in.new.dst ≡ new_store st ns =
-    c.copy_in.ensures ∙ ap (sets st 0) c.lay.ensures ∙ ap (λ (v : List ℕ). sets st 0 (sets v 0 (runs_of st ns))) z
-    ∙ new_is st ns (omega (arith, room, (known).store)) in
+    let w : c.copy_from_slice.new.self ≡ new_store st ns =
+    c.copy_from_slice.ensures.after ∙ c.lay.ensures ∙ new_is st ns _ known.store in
     record {
       number = sym (fits);
       refused = λ d. absurd (d (fits));

@@ -2,10 +2,11 @@
 use Rattle.units.proofs.Common.{◌≡◌, arith, length, rules}
 use Rattle.meaning.specs.Bench.{full}
 use Rattle.machine.proofs.Terms.{fresh_reader}
-use Rattle.state.proofs.Lists.{length_mapped, get_d_any}
+use Rattle.std.proofs.lemmas.List.{get_or_default}
+use Rattle.state.proofs.Lists.{length_mapped}
 use Rattle.fit.proofs.reader_of.Goals as goal
 
 pub returns : goal.returns
 returns c =
     let n : length c.args.readers ≡ full.readers = search (rules, length_mapped) in
-    get_d_any c.args.readers c.args.i _ fresh_reader (omega arith)
+    get_or_default c.args.readers c.args.i _ fresh_reader (omega arith)

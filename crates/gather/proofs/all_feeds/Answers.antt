@@ -1,23 +1,27 @@
--- The count is that of the line feeds of the blocks that were counted.
+-- A block more, and the rest.
 -- Assumes nothing.
-use Rattle.units.proofs.Common.{refl, arith, drop}
-use Rattle.gather.proofs.Counts.{feeds_few, block_few, block_on, rest_on}
+use Rattle.units.proofs.Common.{◌∙◌, ◌≡◌, [], ap, length, ◌+◌, ◌/◌, ◌*◌, take, get_or, rules, arith}
+use Rattle.gather.proofs.Counts.{feeds_in, block_more, rest_on}
+use Rattle.gather.proofs.Blocks.{block_at}
 use Rattle.gather.proofs.all_feeds.Goals as goal
 
-pub loop-at-init : goal.loop-at-init
-loop-at-init c = (omega arith, omega arith, refl)
-
-pub overflow_add-n : goal.overflow_add-n
-overflow_add-n c = omega (arith, block_few (drop c.loop-at.at c.args.bytes.now) 128)
-
-pub loop-at-preserved : goal.loop-at-preserved
-loop-at-preserved c =
+pub loop-block-preserved : goal.loop-block-preserved
+loop-block-preserved c =
     let bs = c.args.bytes.now in
-    let at = c.loop-at.at in
-    (omega arith, omega (arith, block_few (drop at bs) 128), omega (arith, block_on bs at 128))
-
-pub overflow_add-result : goal.overflow_add-result
-overflow_add-result c = let bs = c.args.bytes.now in omega (arith, rest_on bs c.loop-at.at, feeds_few bs)
+    let i = c.loop-block.block-index in
+    let block = ap (λ l. feeds_in (get_or l i [])) c.as_chunks.ensures.front
+    ∙ ap feeds_in (block_at (length bs / 128) i bs (omega arith)) in
+    let n : (i + 1) * 128 ≡ i * 128 + 128 = omega arith in
+    let more : c.loop-block.n + c.feeds.result ≡ feeds_in (take ((i + 1) * 128) bs) =
+    rw n (omega (arith, c.feeds.ensures, block, block_more bs (i * 128) 128, c.loop-block.invariant)) in
+    more
 
 pub returns : goal.returns
-returns c = omega (arith, rest_on c.args.bytes.now c.loop-at.at)
+returns c =
+    let bs = c.args.bytes.now in
+    let at = length bs / 128 * 128 in
+    let counted : c.count.result ≡ feeds_in c.as_chunks.result.1.now = search rules in
+    let rest = ap feeds_in c.as_chunks.ensures.back in
+    let all : c.loop-block.block-index ≡ length bs / 128 = omega arith in
+    let before : c.loop-block.n ≡ feeds_in (take at bs) = c.loop-block.invariant ∙ rw all in
+    omega (arith, counted, rest, before, rest_on bs at)

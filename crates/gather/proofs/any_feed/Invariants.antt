@@ -1,11 +1,8 @@
--- Whether there is a line feed among the bytes that were looked at.
+-- Whether there is a line feed among the bytes so far.
 -- Assumes nothing.
-use Rattle.units.proofs.Common.{◌≡◌, ◌≤◌, ◌-◌, drop, take}
-use Rattle.gather.specs.Pieces.{fed}
+use Rattle.units.proofs.Common.{◌≡◌, eqb, take}
+use Rattle.std.specs.List.{list_any}
 use Rattle.gather.proofs.any_feed.Given as goal
 
-abbrev pub invariant-loop-k : goal.invariant-loop-k
-invariant-loop-k l = (l.k ≤ 16) × (l.any ≡ fed (take l.k (drop l.at l.bytes)))
-
-abbrev pub decreases-loop-k : goal.decreases-loop-k
-decreases-loop-k l = 16 - l.k
+abbrev pub invariant-loop-b : goal.invariant-loop-b
+invariant-loop-b l = l.any ≡ list_any (λ c. eqb c 10) (take l.b-index l.block)

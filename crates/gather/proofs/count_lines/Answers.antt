@@ -1,8 +1,9 @@
 -- Without bytes there is no line; else the last byte says whether the line feeds are all.
 -- Assumes nothing.
-use Rattle.units.proofs.Common.{sym, ◌∙◌, ap, ◌-◌, arith, length}
+use Rattle.units.proofs.Common.{sym, ◌∙◌, ap, ◌-◌, arith, eqb, length}
+use Rattle.std.proofs.lemmas.List.Sums.{count_by-le-length}
 use Rattle.gather.proofs.Pieces.{lines_end}
-use Rattle.gather.proofs.Counts.{feeds_few, lines_whole, lines_part}
+use Rattle.gather.proofs.Counts.{lines_whole, lines_part}
 use Rattle.gather.proofs.count_lines.Goals as goal
 
 pub returns-then-end-eq0 : goal.returns-then-end-eq0
@@ -14,7 +15,7 @@ returns-then-bytes-end-eq10 c =
     c.all_feeds-n.ensures ∙ sym (lines_whole (length bs - 1) bs (omega arith) c.if-bytes-end-eq10.true)
 
 pub overflow_add-result : goal.overflow_add-result
-overflow_add-result c = omega (arith, feeds_few c.args.bytes.now)
+overflow_add-result c = omega (arith, count_by-le-length (λ c. eqb c 10) c.args.bytes.now)
 
 pub returns : goal.returns
 returns c =

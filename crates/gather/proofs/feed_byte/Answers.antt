@@ -1,23 +1,17 @@
--- From where the loop stands the line ends where it ends from its start: no line feed stands between.
+-- The first place, or how many bytes there are.
 -- Assumes nothing.
-use Rattle.units.proofs.Common.{ap, arith, length}
-use Rattle.gather.proofs.Pieces.{at_feed, at_other, at_end}
+use Rattle.units.proofs.Common.{◌∙◌, ℕ, ap, eqb, length, rules}
+use borrow.Author.Tests.{tests}
+use Rattle.std.specs.Option.{unwrap_or}
+use Rattle.std.proofs.lemmas.Iterator.{YieldsList-from_slice}
+use Rattle.std.proofs.lemmas.Iterator.Search.{position_from_yields_List}
+use Rattle.gather.proofs.Blocks.{place_or_length}
 use Rattle.gather.proofs.feed_byte.Goals as goal
 
-pub loop-at-init : goal.loop-at-init
-loop-at-init c = λ r e. e
-
-pub returns-then-bytes-at-eq10 : goal.returns-then-bytes-at-eq10
-returns-then-bytes-at-eq10 c =
-    let a = c.args in
-    let none = at_feed a.bytes.now c.loop-at.at (omega arith) c.if-bytes-at-eq10.true in
-    c.loop-at.invariant _ (omega (arith, ap length none))
-
-pub loop-at-preserved : goal.loop-at-preserved
-loop-at-preserved c =
-    let a = c.args in
-    let one = at_other a.bytes.now c.loop-at.at (omega arith) c.if-bytes-at-eq10.false in
-    λ r e. c.loop-at.invariant r (omega (arith, e, ap length one))
-
 pub returns : goal.returns
-returns c = c.loop-at.invariant _ (omega (arith, ap length (at_end c.args.bytes.now c.loop-at.at (omega arith))))
+returns c =
+    let bs = c.args.bytes.now in
+    let feed = λ (x : ℕ). eqb x 10 in
+    let e = position_from_yields_List feed _ _ c.position.result c.position.ensures.ran (YieldsList-from_slice bs cc)
+    (λ x b q k. search (rules, tests)) in
+    c.unwrap_or.ensures ∙ ap (λ o. unwrap_or o (length bs)) e ∙ place_or_length feed bs

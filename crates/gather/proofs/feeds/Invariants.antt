@@ -1,11 +1,8 @@
--- The count is that of the line feeds among the bytes that were looked at.
+-- The count is that of the line feeds among the bytes so far.
 -- Assumes nothing.
-use Rattle.units.proofs.Common.{◌≡◌, ◌≤◌, ◌-◌, drop, take}
-use Rattle.gather.proofs.Counts.{feeds_in}
+use Rattle.units.proofs.Common.{◌≡◌, eqb, take}
+use Rattle.std.specs.List.{count_by}
 use Rattle.gather.proofs.feeds.Given as goal
 
-abbrev pub invariant-loop-k : goal.invariant-loop-k
-invariant-loop-k l = (l.k ≤ 128) × (l.n ≤ l.k) × (l.n ≡ feeds_in (take l.k (drop l.from l.bytes)))
-
-abbrev pub decreases-loop-k : goal.decreases-loop-k
-decreases-loop-k l = 128 - l.k
+abbrev pub invariant-loop-b : goal.invariant-loop-b
+invariant-loop-b l = l.n ≡ count_by (λ c. eqb c 10) (take l.b-index l.bytes)

@@ -1,31 +1,21 @@
--- What is left is all words just where the whole is; the words so far and those that are left are all of them.
+-- All pieces of the rest are words just where all fields are.
 -- Assumes nothing.
-use Rattle.units.proofs.Common.{sym, ◌∙◌, ap, arith, length, every, yes_and}
-use Rattle.fields.proofs.Places.{from_past}
-use Rattle.hexwords.proofs.Words.{no_words, all_words}
-use Rattle.hexwords.proofs.Words.{word_at, first_word}
-use Rattle.dialog.specs.Fields.{word_ok}
-use Rattle.dialog.proofs.FieldLaws.{nowise, clash, every_cons, every_none}
+use Rattle.units.proofs.Common.{◌∙◌, ◌≡◌, ap, ℕ, ◌-◌, List, length, drop, take, arith, take_all, length-drop, rules}
+use borrow.Author.Tests.{tests}
+use Rattle.std.specs.List.{list_all}
+use Rattle.std.proofs.lemmas.Iterator.Search.{all_from_yields_List}
+use Rattle.hexwords.specs.WordsAt.{is_piece}
+use Rattle.hexwords.proofs.Words.{yields_pieces, pieces, counted}
 use Rattle.hexwords.proofs.count_words.Goals as goal
 
-pub returns-then-not-is_word : goal.returns-then-not-is_word
-returns-then-not-is_word c =
-    let a = c.args in
-    no_words a.line.now a.at (nowise _ (λ e. clash c.is_word.ensures c.if-not-is_word.true
-    (first_word a.line.now c.loop-from.from (omega arith) (sym c.loop-from.invariant.1 ∙ e))))
-
-pub loop-from-preserved : goal.loop-from-preserved
-loop-from-preserved c =
-    let w = word_at c.args.line.now c.loop-from.from (omega arith)
-    (sym c.is_word.ensures ∙ c.if-not-is_word.false) in (
-      omega arith,
-      c.loop-from.invariant.1 ∙ ap (every word_ok) w.first ∙ every_cons word_ok _ _ ∙ yes_and w.ok,
-      omega (arith, ap length w.first, c.loop-from.invariant.2),
-    )
+whole : (line : List ℕ) (at : ℕ) → take (length line - at) (drop at line) ≡ drop at line
+whole line at = take_all (length line - at) (drop at line) (omega (arith, length-drop at line))
 
 pub returns : goal.returns
 returns c =
-    let a = c.args in
-    let l = c.loop-from in
-    let e = from_past a.line.now l.from (omega arith) in
-    all_words a.line.now a.at l.n (l.invariant.1 ∙ ap (every word_ok) e ∙ every_none word_ok) (omega (arith, ap length e, l.invariant.2))
+    let line = c.args.line.now in
+    let at = c.args.at in
+    let r = all_from_yields_List is_piece _ _ _ c.all.ensures.ran (yields_pieces c.chunks.result c.chunks.ensures.size)
+    (λ x b q k. search (rules, tests)) in
+    c.then_some.ensures ∙ counted line at _ _ c.if-line-at.false (ap length (whole line at) ∙ length-drop at line) c.if-words-ne4.false
+    (r ∙ ap (λ (xs : List ℕ). list_all is_piece (pieces xs)) (c.chunks.ensures.rest ∙ whole line at))

@@ -4,9 +4,9 @@ use Rattle.units.proofs.Common.{sym, ◌∙◌, refl, ap, ◌≤◌, arith, leng
 use Rattle.dialog.proofs.HexLaws.{no_bytes, some_bytes, length_pairs, of_bytes}
 use Rattle.hexwords.proofs.put_bytes.Goals as goal
 
-pub returns-then-is_same : goal.returns-then-is_same
-returns-then-is_same c =
-    let e = no_bytes c.args.field.now (sym c.is_same.ensures ∙ c.if-is_same.true) in
+pub returns-then-is_dash : goal.returns-then-is_dash
+returns-then-is_dash c =
+    let e = no_bytes c.args.field.now (sym c.is_dash.ensures ∙ c.if-is_dash.true) in
     record {
       result_value = sym (ap length e);
       out_after = sym (rw e refl);
@@ -14,19 +14,19 @@ returns-then-is_same c =
 
 pub put_pairs-requires : goal.put_pairs-requires
 put_pairs-requires c =
-    let b = of_bytes c.args.most.0 c.args.field.now (sym c.is_same.ensures ∙ c.if-is_same.false) c.requires in
+    let b = of_bytes c.args.most.0 c.args.field.now (sym c.is_dash.ensures ∙ c.if-is_dash.false) c.requires in
     (b.even, b.digits)
 
 pub overflow_cast-result : goal.overflow_cast-result
 overflow_cast-result c =
     let few : c.args.most.0 ≤ 65535 = search rules in
-    let b = of_bytes c.args.most.0 c.args.field.now (sym c.is_same.ensures ∙ c.if-is_same.false) c.requires in
+    let b = of_bytes c.args.most.0 c.args.field.now (sym c.is_dash.ensures ∙ c.if-is_dash.false) c.requires in
     omega arith
 
 pub returns : goal.returns
 returns c =
     let f = c.args.field.now in
-    let e = some_bytes f (sym c.is_same.ensures ∙ c.if-is_same.false) in
+    let e = some_bytes f (sym c.is_dash.ensures ∙ c.if-is_dash.false) in
     record {
       result_value = sym (ap length e ∙ length_pairs f);
       out_after = c.put_pairs.ensures ∙ sym (rw e refl);

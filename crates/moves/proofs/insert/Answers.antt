@@ -1,15 +1,11 @@
--- Moving up to `end` and copying into the gap is `inserted`: `insert-is` of Moves joins the two calls' promises.
-use native.Mathlib.Omega.{arith}
-use mathlib.Core.Path.{ap, ◌∙◌}
-use mathlib.Core.List.{List}
-use Prim.Native.Nat.{ℕ}
-use lib.Seq.{sets}
-use Rattle.moves.proofs.Moves.{insert_is}
+-- Those behind the place stand moved up, and the new words over what is left before them: word by word that is `inserted`.
+use Rattle.std.proofs.Common.{rules, arith}
+use Rattle.std.proofs.lemmas.List.{same_lists, places}
+use Rattle.moves.specs.Moved.{inserted}
 use Rattle.moves.proofs.insert.Goals as goal
 
 pub returns : goal.returns
+unfolding inserted
 returns c =
-    let a = c.args in
-    c.copy_in.ensures
-    ∙ ap (λ (v : List ℕ). sets v a.at a.new.now) c.move_up.ensures
-    ∙ insert_is a.words.now a.at a.end a.new.now (omega arith) (omega arith)
+    rw (c.copy_within.ensures.after, c.copy_from_slice.ensures.after)
+    (same_lists _ _ (search (rules, places)) (λ k d h. grind (arith, places)))

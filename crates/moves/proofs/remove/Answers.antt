@@ -1,18 +1,11 @@
--- Moving down and wiping what is left behind is `removed`: `remove-is` of Moves joins the two calls' promises.
-use native.Mathlib.Omega.{arith}
-use Prim.Native.Nat.{ℕ, ◌+◌, ◌-◌}
-use mathlib.Core.Path.{◌≡◌, ap, ◌∙◌}
-use mathlib.Core.List.{List}
-use lib.ListN.{replicate}
-use lib.Seq.{sets}
-use Rattle.moves.proofs.Moves.{remove_is}
+-- Those behind stand moved down, and zeros over what they leave: word by word that is `removed`.
+use Rattle.std.proofs.Common.{rules, arith}
+use Rattle.std.proofs.lemmas.List.{same_lists, places}
+use Rattle.moves.specs.Moved.{removed}
 use Rattle.moves.proofs.remove.Goals as goal
 
 pub returns : goal.returns
+unfolding removed
 returns c =
-    let a = c.args in
-    let k : a.end - (a.end - a.count) ≡ a.count = omega arith in
-    let b : a.at + a.count - a.count ≡ a.at = omega arith in
-    c.wipe_part.ensures
-    ∙ ap (λ (v : List ℕ). sets v (a.end - a.count) (replicate (a.end - (a.end - a.count)) 0)) c.move_down.ensures
-    ∙ rw (k, b) (remove_is a.words.now a.at a.end a.count (omega arith) (omega arith))
+    rw (c.copy_within.ensures.after, c.fill.ensures.after (λ y h. h))
+    (same_lists _ _ (search (rules, places)) (λ k d h. grind (arith, places)))

@@ -1,58 +1,58 @@
--- After k turns the front of out holds the first k + k words, and after the pair that may be left all pairs that there is room for. There
--- is no more room, or no byte more, or the odd byte's word joins them; `filled` and `put_last` say that this is all.
+-- A turn puts one word more. There is no more room, or no byte more, or the odd byte's word joins them; `filled` and `put_last` say that
+-- this is all.
 -- Assumes nothing.
-use Rattle.units.proofs.Common.{sym, ◌∙◌, ◌≡◌, ◌++◌, ◌+◌, arith, drop, take, length-set}
+use Rattle.units.proofs.Common.{sym, ◌∙◌, ◌≡◌, refl, ap, ℕ, ◌+◌, ◌<◌, ◌*◌, ◌/◌, ◌≤◌, suc, zero, List, [], ◌∷◌, arith, length, get_or, min}
+use Rattle.units.proofs.Common.{get_or-drop, ltb-true, ltb-false, word}
+use Rattle.std.specs.Int.{w16, from_be_bytes}
+use Rattle.std.specs.Simd.{first_chunks}
 use Rattle.units.specs.Packing.{packed}
-use Rattle.units.proofs.PackingLaws.{length_packed, get_d_packed, odd_packed, put_next, put_two, filled, put_last}
+use Rattle.units.proofs.PackingLaws.{length_packed, odd_packed, put_next, filled, put_last}
 use Rattle.packing.proofs.pack.Goals as goal
-use Rattle.packing.proofs.pack.Goals.{Joined-last-n, then-last-n, else-last-n}
+use Rattle.packing.proofs.pack.Goals.{else-odd-lt1-via-then-odd-lt1, else-odd-lt1-via-else-odd-lt1+else-odd-lt2}
+use Rattle.packing.proofs.pack.Goals.{else-odd-lt1-via-in-len1+else-n-out}
 
-pub loop-k-preserved : goal.loop-k-preserved
-loop-k-preserved c =
-    let a = c.args in
-    let k = c.loop-k.k in
-    let e = length_packed a.bytes.now in (
-      omega arith,
-      put_two a.out.now (packed a.bytes.now) k c.loop-k.invariant.1
-          (c.pair_at-first.ensures ∙ sym (get_d_packed a.bytes.now (k + k)))
-          (c.pair_at-second.ensures ∙ sym (get_d_packed a.bytes.now (k + k + 1)))
-          (omega arith) (omega arith),
-      simp length-set c.loop-k.invariant.2,
-    )
+-- a pair of bytes is a word
+pair_at : (bs : List ℕ) (k i : ℕ) → i < k → k + k ≤ length bs
+    → from_be_bytes w16 (get_or (first_chunks 2 k bs) i []) ≡ get_or (packed bs) i 0
+pair_at bs zero i h n = absurd (omega arith)
+pair_at [] (suc k) i h n = absurd (omega arith)
+pair_at (x ∷ []) (suc k) i h n = absurd (omega arith)
+pair_at (x ∷ y ∷ bs) (suc k) zero h n = refl
+pair_at (x ∷ y ∷ bs) (suc k) (suc i) h n = pair_at bs k i (omega arith) (omega arith)
 
--- after the pair that may be left
-paired : (c : Joined-last-n) → c.if-last-n.out ≡ take c.least-n.result (packed c.args.bytes.now) ++ drop c.least-n.result c.args.out.now
-paired c =
+pub loop-i-preserved : goal.loop-i-preserved
+loop-i-preserved c =
     let a = c.args in
-    let i = c.loop-k.k + c.loop-k.k in
-    let n = c.least-n.result in
+    let i = c.loop-i.i in
     let e = length_packed a.bytes.now in
-    elim c.if-last-n.branch [
-      | then-last-n w ↦
-          w.out-is ∙ put_next a.out.now (packed a.bytes.now) i n c.loop-k.invariant.1
-          (w.pair_at.ensures ∙ sym (get_d_packed a.bytes.now i)) (omega arith) (omega arith) (omega arith)
-      | else-last-n w ↦ let q : i ≡ n = omega arith in rw (← q) (w.out-is ∙ c.loop-k.invariant.1)
-    ]
+    put_next a.out.now (packed a.bytes.now) i (i + 1) c.loop-i.invariant
+    (c.from_be_bytes.ensures ∙ ap (λ ps. from_be_bytes w16 (get_or ps i [])) c.as_chunks.ensures.front
+    ∙ pair_at a.bytes.now (length a.bytes.now / 2) i (omega arith) (omega arith)) refl (omega arith) (omega arith)
 
 -- the odd byte's word
-pub returns-then-at-bytes : goal.returns-then-at-bytes
-returns-then-at-bytes c =
+pub returns-then-n-out : goal.returns-then-n-out
+returns-then-n-out c =
     let a = c.args in
-    let n = c.least-n.result in
-    let e = length_packed a.bytes.now in
-    put_last (packed a.bytes.now) a.out.now n (paired (goal.at.returns-then-at-bytes c).Joined-last-n)
-    (c.word.ensures ∙ sym (odd_packed a.bytes.now n (omega arith))) (omega arith)
+    let bs = a.bytes.now in
+    let i = c.loop-i.i in
+    let q : c.min-n.result ≡ i = omega arith in
+    let b : get_or c.as_chunks.result.1.now 0 0 ≡ get_or bs (i + i) 0 =
+    ap (λ l. get_or l 0 0) c.as_chunks.ensures.back ∙ get_or-drop (length bs / 2 * 2) bs 0 0
+    ∙ ap (λ k. get_or bs k 0) (omega arith) in
+    let e = length_packed bs in
+    rw q (put_last (packed bs) a.out.now i c.loop-i.invariant
+    (c.from_be_bytes-2.ensures ∙ ap (λ x. word x 0) b ∙ sym (odd_packed bs i (omega arith))) (omega arith))
 
--- no byte more
-pub returns-else-at-bytes : goal.returns-else-at-bytes
-returns-else-at-bytes c =
+-- no more room, or no byte more
+pub returns-else-odd-lt1 : goal.returns-else-odd-lt1
+returns-else-odd-lt1 c =
     let a = c.args in
-    let e = length_packed a.bytes.now in
-    paired (goal.at.returns-else-at-bytes c).Joined-last-n ∙ filled (packed a.bytes.now) a.out.now c.least-n.result (omega arith)
-
--- no more room
-pub returns-else-n-out : goal.returns-else-n-out
-returns-else-n-out c =
-    let a = c.args in
-    let e = length_packed a.bytes.now in
-    paired (goal.at.returns-else-n-out c).Joined-last-n ∙ filled (packed a.bytes.now) a.out.now c.least-n.result (omega arith)
+    let bs = a.bytes.now in
+    let e = length_packed bs in
+    let all : c.loop-i.i ≡ min (length (packed bs)) (length a.out.now) =
+    elim c.else-odd-lt1.branch [
+      | else-odd-lt1-via-then-odd-lt1 w ↦ omega (arith, ltb-true)
+      | else-odd-lt1-via-else-odd-lt1+else-odd-lt2 w ↦ omega (arith, ltb-false)
+      | else-odd-lt1-via-in-len1+else-n-out w ↦ omega arith
+    ] in
+    c.loop-i.invariant ∙ filled (packed bs) a.out.now c.loop-i.i all

@@ -1,14 +1,8 @@
 -- One digit is the whole text; more are those of the tenth, then the last.
 -- Assumes nothing.
 use Rattle.units.proofs.Common.{sym, ap, arith, length, length-append}
-use Rattle.text.proofs.Writing.{put_then, put_as, decimal_one, decimal_more}
+use Rattle.text.proofs.Writing.{put_then, put_as, decimal_more}
 use Rattle.text.proofs.+put_decimal.Goals as goal
-
-pub put-requires : goal.put-requires
-put-requires t c = omega (arith, ap length (decimal_one c.args.n c.if-n-lt10.true))
-
-pub returns-then-n-lt10 : goal.returns-then-n-lt10
-returns-then-n-lt10 t c = put_as (sym (decimal_one c.args.n c.if-n-lt10.true)) (rw (← c.ten.ensures) c.put.ensures)
 
 pub put_decimal-last-requires : goal.put_decimal-last-requires
 put_decimal-last-requires t c = (

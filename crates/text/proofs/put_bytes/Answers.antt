@@ -1,28 +1,20 @@
--- What was written and the text of the bytes to come are the whole text, at each turn.
+-- A turn writes the text of one byte more behind what was written.
 -- Assumes nothing.
-use Rattle.text.proofs.Writing.{put_turn, put_done, put_length, length_byte_hex, length_bytes, bytes_next}
-use Rattle.units.proofs.Common.{◌∙◌, refl, ap, arith, get_or, drop_of_length-le}
+use Rattle.units.proofs.Common.{sym, refl, arith, take, length-take}
+use Rattle.text.proofs.Writing.{put_then, put_as, length_bytes, bytes_more}
 use Rattle.text.specs.Text.{bytes_hex_of}
 use Rattle.text.proofs.put_bytes.Goals as goal
 
-pub loop-i-init : goal.loop-i-init
-loop-i-init c = (omega arith, omega arith, refl, refl)
-
-pub loop-i-preserved : goal.loop-i-preserved
-loop-i-preserved c =
-    let a = c.args in (
-      omega arith,
-      omega (arith, c.put_byte_hex-to.ensures.next, length_byte_hex (get_or a.bytes.now c.loop-i.i 0)),
-      put_length c.put_byte_hex-to.ensures ∙ c.loop-i.invariant.2,
-      put_turn _ _ c.put_byte_hex-to.ensures (bytes_next a.bytes.now c.loop-i.i (omega arith)) c.loop-i.invariant.3,
-    )
-
-pub shape_of-out : goal.shape_of-out
-shape_of-out c = c.loop-i.invariant.2
-
-pub returns : goal.returns
+pub loop-b-init : goal.loop-b-init
 unfolding bytes_hex_of
-returns c =
-    let a = c.args in
-    put_done _ (omega (arith, length_bytes a.bytes.now)) (ap bytes_hex_of
-    (drop_of_length-le a.bytes.now {i = c.loop-i.i} (omega arith))) c.loop-i.invariant.3
+loop-b-init c = record { next = omega arith; wrote = refl }
+
+pub put_byte_hex-to-requires : goal.put_byte_hex-to-requires
+put_byte_hex-to-requires c =
+    let bs = c.args.bytes.now in
+    let i = c.loop-b.b-index in
+    omega (arith, c.loop-b.invariant.next, length_bytes (take i bs), length-take i bs)
+
+pub loop-b-preserved : goal.loop-b-preserved
+loop-b-preserved c =
+    put_as (sym (bytes_more c.args.bytes.now c.loop-b.b-index (omega arith))) (put_then c.loop-b.invariant c.put_byte_hex-to.ensures)

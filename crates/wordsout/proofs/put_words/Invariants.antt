@@ -1,13 +1,9 @@
--- What was written and the text of the words to come are the whole text; the last blank gives way to a line feed.
+-- The words so far were written, a blank behind each.
 -- Assumes nothing.
+use Rattle.units.proofs.Common.{take}
+use Rattle.text.specs.Text.{Put}
 use Rattle.text.proofs.Writing.{spaced}
-use Rattle.units.proofs.Common.{◌≡◌, ◌≤◌, ◌-◌, ◌+◌, ◌*◌, length, drop}
-use Rattle.units.proofs.Common.{sets}
 use Rattle.wordsout.proofs.put_words.Given as goal
 
-abbrev pub invariant-loop-i : goal.invariant-loop-i
-invariant-loop-i l = (l.i ≤ length l.words) × (l.to ≡ l.at + 5 * l.i) × (length l.out ≡ length l.initial.out)
-    × (sets l.out l.to (spaced (drop l.i l.words)) ≡ sets l.initial.out l.at (spaced l.words))
-
-abbrev pub decreases-loop-i : goal.decreases-loop-i
-decreases-loop-i l = length l.words - l.i
+abbrev pub invariant-loop-w : goal.invariant-loop-w
+invariant-loop-w l = Put l.initial.out l.at (spaced (take l.w-index l.words)) l.out l.to

@@ -1,7 +1,8 @@
 -- What is said in turn goes on from place to place.
 -- Assumes nothing.
+use Rattle.units.proofs.Common.{rules}
 use Rattle.guide.proofs.Saying.{goes_then}
 use Rattle.guide.proofs.responses.say_accepted.Goals as goal
 
 pub returns : goal.returns
-returns c = goes_then c.say-a.ensures.on (goes_then c.say_response-b.ensures c.say_same.ensures.on)
+returns c = search (rules, goes_then)

@@ -1,12 +1,11 @@
 -- What is said in turn goes on from place to place.
 -- Assumes nothing.
+use Rattle.units.proofs.Common.{rules}
 use Rattle.guide.proofs.Saying.{goes_then}
 use Rattle.guide.proofs.responses.say_answer.Goals as goal
 
-pub returns-then-bytes-eq0 : goal.returns-then-bytes-eq0
-returns-then-bytes-eq0 c = goes_then c.say_byte-a.ensures.on (goes_then c.say_origin-b.ensures c.say_number-c.ensures.on)
+pub returns-then-not-is_empty : goal.returns-then-not-is_empty
+returns-then-not-is_empty c = search (rules, goes_then)
 
-pub returns : goal.returns
-returns c =
-    goes_then c.say_byte-a.ensures.on (goes_then c.say_origin-b.ensures
-    (goes_then c.say_number-c.ensures.on c.say_bytes.ensures.on))
+pub returns-else-not-is_empty : goal.returns-else-not-is_empty
+returns-else-not-is_empty c = search (rules, goes_then)

@@ -1,7 +1,8 @@
 -- What is said in turn goes on from place to place.
 -- Assumes nothing.
+use Rattle.units.proofs.Common.{rules}
 use Rattle.guide.proofs.Saying.{goes_then}
 use Rattle.guide.proofs.responses.say_error.Goals as goal
 
 pub returns : goal.returns
-returns c = goes_then c.say_byte-a.ensures.on (goes_then c.say_origin-b.ensures c.say_bytes.ensures.on)
+returns c = search (rules, goes_then)

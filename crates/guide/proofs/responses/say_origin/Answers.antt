@@ -1,7 +1,8 @@
 -- What is said in turn goes on from place to place.
 -- Assumes nothing.
+use Rattle.units.proofs.Common.{rules}
 use Rattle.guide.proofs.Saying.{goes_then}
 use Rattle.guide.proofs.responses.say_origin.Goals as goal
 
 pub returns : goal.returns
-returns c = goes_then c.say_number-a.ensures.on (goes_then c.say_number-b.ensures.on c.say_stamp.ensures)
+returns c = search (rules, goes_then)

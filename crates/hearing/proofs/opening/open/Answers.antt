@@ -18,7 +18,7 @@ returns-in_default c =
 
 pub bring-requires : goal.bring-requires
 bring-requires c =
-    let read = count_read c.args.file.now (sym c.in-Count.is ∙ c.read_count.ensures) in
+    let read = count_read c.args.file.now (sym c.in-Some.is ∙ c.read_count.ensures) in
     record {
       in_bounds = (read.there, omega arith);
       plaques_value = c.requires;
@@ -26,6 +26,6 @@ bring-requires c =
 
 pub returns : goal.returns
 returns c =
-    let r = count_read c.args.file.now (sym c.in-Count.is ∙ c.read_count.ensures) in
+    let r = count_read c.args.file.now (sym c.in-Some.is ∙ c.read_count.ensures) in
     stands_as (begun full (meaning full (machine c.args.s c.args.store.now c.args.plaques.now)) c.args.file.now _ (omega arith) r.whole
     r.said) c.bring.ensures

@@ -4,7 +4,7 @@ use Rattle.units.proofs.Common.{sym, ◌∙◌, ◌≡◌, List, ℕ, ◌≤◌,
 use Rattle.meaning.specs.Bench.{node_count}
 use Rattle.meaning.proofs.Terms.{full}
 use Rattle.machine.proofs.Terms.{counts, charges_of}
-use Rattle.state.proofs.Lists.{map_set}
+use Rattle.std.proofs.lemmas.List.{map-set}
 use Rattle.lists.proofs.Charges.{count_at, length_words, bounded_at, set_within, no_room, room_by_charges}
 use Rattle.lists.proofs.room.has_room.Goals as goal
 
@@ -31,7 +31,7 @@ charges-requires c =
     let v = (get_or a.held a.i (record { 0 = 0 })).0 + a.new.0 in
     let l = long in
     let t : (j : ℕ) → j < node_count full → get_or (counts (set a.held a.i (record { 0 = v }))) j 0 ≤ full.limit = λ j g.
-    rw map_set (set_within ((counts c.args.held)) a.i v full.limit (omega arith) (λ k h. held_few k (omega arith)) j (omega arith)) in
+    rw map-set (set_within ((counts c.args.held)) a.i v full.limit (omega arith) (λ k h. held_few k (omega arith)) j (omega arith)) in
     t
 
 pub returns : goal.returns
@@ -44,5 +44,5 @@ returns c =
     let e = count_at a.held a.i in
     let f = held_few a.i c.requires.1 in
     let r : c.charges.result.0 ≡ charges_of full.share (set hs a.i (get_or hs a.i 0 + a.new.0)) =
-    c.charges.ensures ∙ rw (map_set, e) in
+    c.charges.ensures ∙ rw (map-set, e) in
     rw r (sym (room_by_charges full hs a.i a.new.0 (omega arith)))

@@ -1,7 +1,7 @@
 -- No word from the place to w is marked.
 -- Assumes nothing.
 use Rattle.units.proofs.Common.{◌≡◌, refl, ⊎_elim, inl, inr, ◌≤◌, ◌<◌, arith}
-use Rattle.state.proofs.Lists.{below_or}
+use Rattle.std.proofs.lemmas.Bool.{cases_lt}
 use Rattle.placed.proofs.fine.all_free.Goals as goal
 
 pub loop-w-init : goal.loop-w-init
@@ -18,7 +18,7 @@ loop-w-preserved c =
       λ v a b. ⊎_elim
           (λ (h : v < w). c.loop-w.invariant.2 v a h)
           (λ (h : w ≤ v). let e : v ≡ w = omega arith in rw e c.if-used-w.false)
-          (below_or v w),
+          (cases_lt v w),
     )
 
 pub returns : goal.returns

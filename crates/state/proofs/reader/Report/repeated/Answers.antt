@@ -1,24 +1,25 @@
--- `kept` and `unkept` read the report by its fields; `wrapped` is the difference of 32 bits.
+-- `repeats_is` of Reports has the code's tests; whether a report is kept comes first.
 -- Assumes nothing.
-use Rattle.units.proofs.Common.{sym, ◌∙◌, ap, ℕ, ◌*◌, ltb, not-false, not-true, rules, yes_and, no_and}
-use Rattle.state.proofs.Reports.{unkept, kept, wrapped}
+use Rattle.units.proofs.Common.{sym, ◌∙◌, ◌≡◌, ◌&&◌, ◌<◌, ◌^◌, eqb, arith, rules, yes_and, no_and}
+use Rattle.std.specs.Cmp.Lexicographic.{pointwise}
+use Rattle.state.proofs.Reports.{repeats_is}
 use Rattle.state.proofs.reader.Report.repeated.Goals as goal
+use Rattle.state.proofs.reader.Report.repeated.Goals.{Joined-self, then-self, else-self}
 
-pub returns-then-not-self : goal.returns-then-not-self
-returns-then-not-self c = sym (unkept _ _ _ c.args.self (not-true _ c.if-not-self.true))
+tested : (c : Joined-self) → c.if-self.value ≡ c.args.self.kept && pointwise eqb c.args.id c.args.self.id
+tested c = elim c.if-self.branch [
+  | then-self w ↦ w.value-is ∙ w.eq.ensures ∙ sym (yes_and w.if-self.true)
+  | else-self w ↦ w.value-is ∙ w.if-self.false ∙ sym (no_and _ w.if-self.false)
+]
 
-pub returns-then-not-same_id : goal.returns-then-not-same_id
-returns-then-not-same_id c =
-    sym
-    (kept _ _ _ c.args.self (not-false _ c.if-not-self.false)
-    ∙ no_and _ (sym c.same_id.ensures ∙ c.if-not-same_id.true))
+pub returns-then-eq : goal.returns-then-eq
+returns-then-eq c =
+    let small : c.args.self.clock < 2 ^ 32 = search rules in
+    let e = tested (goal.at.returns-then-eq c).Joined-self in
+    sym (repeats_is _ _ _ c.args.self (omega arith) ∙ yes_and (sym e ∙ c.if-eq.true))
 
-pub returns : goal.returns
-returns c =
-    let a = c.args in
-    let w = wrapped c.wrapping_sub_u32.result a.clock a.self.clock (search rules) (search rules)
-    c.wrapping_sub_u32.ensures.value in
-    ap (λ (x : ℕ). ltb x (1000 * a.delay)) (sym w)
-    ∙ sym
-    (kept _ _ _ a.self (not-false _ c.if-not-self.false)
-    ∙ yes_and (sym c.same_id.ensures ∙ c.if-not-same_id.false))
+pub returns-else-eq : goal.returns-else-eq
+returns-else-eq c =
+    let small : c.args.self.clock < 2 ^ 32 = search rules in
+    let e = tested (goal.at.returns-else-eq c).Joined-self in
+    c.if-eq.false ∙ sym (repeats_is _ _ _ c.args.self (omega arith) ∙ no_and _ (sym e ∙ c.if-eq.false))

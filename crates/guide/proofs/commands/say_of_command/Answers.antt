@@ -1,7 +1,0 @@
--- What is said in turn goes on from place to place.
--- Assumes nothing.
-use Rattle.guide.proofs.Saying.{goes_then}
-use Rattle.guide.proofs.commands.say_of_command.Goals as goal
-
-pub returns-in-Refused : goal.returns-in-Refused
-returns-in-Refused c = goes_then c.say_number-a.ensures.on c.say.ensures.on

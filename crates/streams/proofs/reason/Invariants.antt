@@ -1,9 +1,0 @@
--- From the end of the text on, byte by byte.
-use Rattle.std.proofs.Common.{◌≤◌, length}
-use Rattle.streams.proofs.reason.Given as goal
-
-abbrev pub invariant-loop-n : goal.invariant-loop-n
-invariant-loop-n l = l.n ≤ length l.text
-
-abbrev pub decreases-loop-n : goal.decreases-loop-n
-decreases-loop-n l = l.n
