@@ -1,4 +1,5 @@
-// The lines of the table: each from the place after its first field, and none where it is no call.
+// The lines of the table: each from the place after its first field, and none where it is no call. No end is looked for of a field that
+// comes after one with which the line is no call, where the reader of the first does not need it: a line may be long.
 ghost use Rattle.std.specs.Prelude.{◌≡◌};
 ghost use Rattle.std.proofs.lemmas.List.Edits.{sets};
 ghost use Rattle.dialog.specs.Spoken.{command_said, check_said, arrive_said, leave_said, collect_said, acknowledge_said, store_said};
@@ -17,8 +18,8 @@ pub fn read_command(line: &[u8], at: usize, words: &mut [u16]) -> Option<Heard>
     ensures words_after { words.new ≡ sets words.old 0 (words_in (command_said (fields_from line.now at))) }
 {
     let t = read_stamp(line, at);
-    let f = read_field(line, t.next);
     let stamp = t.value?;
+    let f = read_field(line, t.next);
     let form = form_of(f.value?)?;
     let count = count_words(line, f.next)?;
     if MOST_WORDS < count {
@@ -50,10 +51,10 @@ pub fn read_arrive(line: &[u8], at: usize, id: &mut [u8], bytes: &mut [u8]) -> O
     ensures bytes_after { bytes.new ≡ sets bytes.old 0 (bytes_in (arrive_said (fields_from line.now at))) }
 {
     let n = read_node(line, at);
-    let i = read_field(line, n.next);
-    let b = read_field(line, i.next);
     let node = n.value?;
+    let i = read_field(line, n.next);
     let named = i.value?;
+    let b = read_field(line, i.next);
     let held = b.last(line)?;
     if !is_bytes(named, LONGEST_ID) || !is_bytes(held, LONGEST_PLAQUE) {
         return None;
@@ -78,8 +79,9 @@ pub fn read_collect(line: &[u8], at: usize) -> Option<Heard>
     ensures { result ≡ readable (collect_said (fields_from line.now at)) }
 {
     let n = read_node(line, at);
+    let node = n.value?;
     let f = read_field(line, n.next);
-    Some(Heard::Collect(n.value?, form_of(f.last(line)?)?))
+    Some(Heard::Collect(node, form_of(f.last(line)?)?))
 }
 
 #[tactic(auto, using(crate::proofs::Found::acknowledge_reads))]
