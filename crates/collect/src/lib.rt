@@ -11,6 +11,7 @@ ghost use Rattle.promise.specs.Obeyed.{Collects};
 
 use answers::slots::node_slot;
 use lists::room::place_of;
+use moves::copy_in;
 use promise::Handout;
 use responseout::bears;
 use state::State;
@@ -24,8 +25,8 @@ fn copy_answer(store: &[u16], place: usize, out: &mut [u16], to: usize)
     ensures { out.new ≡ sets out.old to
         (take (get_or store.now place 0) (drop place store.now)) }
 {
-    let n = store[place] as usize;
-    out[to..to + n].copy_from_slice(&store[place..place + n]);
+    let end = place + store[place] as usize;
+    copy_in(&store[place..end], out, to);
 }
 
 // State, store and plaque memory stay as they are.

@@ -3,15 +3,16 @@
 use Rattle.units.proofs.Common.{sym, ◌∙◌, ◌≡◌, refl, ap, List, [], ◌∷◌, ◌++◌, map, append_assoc, append-nil, ℕ, ◌≤◌, ◌-◌, ◌+◌, ◌<◌, suc}
 use Rattle.units.proofs.Common.{zero, add-zero, zero-add, add-one, arith, length, drop, get_or, take, set, length-drop, replicate}
 use Rattle.units.proofs.Common.{length-append, length-take, take-append-drop, drop_at, take-suc}
-use Rattle.units.proofs.Common.{take-suc-set}
+use Rattle.units.proofs.Common.{take-suc-set, take_all}
+use Rattle.units.proofs.PackingLaws.{sets_full}
 use native.Mathlib.Nat.{add_assoc}
 use Rattle.units.specs.declared.Words.{Words}
 use Rattle.machine.proofs.Terms.{counts}
 use Rattle.state.specs.declared.node.Node.{Node}
 use Rattle.lists.specs.Room.{sum, place_of}
 use lib.Seq.{take_at, drop-drop}
-use borrow.Rule.Slice.PartMut.{put_mid}
 use Rattle.std.proofs.lemmas.List.{drop-replicate, map-append}
+use Rattle.std.proofs.lemmas.List.Edits.{sets, sets-eq}
 use Rattle.placed.proofs.InOrder.{blank, node_any}
 use Rattle.placed.specs.Walked.{words_of}
 use Rattle.placed.specs.declared.Node as O
@@ -19,11 +20,17 @@ use Rattle.convert.specs.Convert.{held_by, runs_of, new_store, old_nodes, EachIn
 
 -- ---- words copied in
 -- behind those that stand there
-pub laid_more : (d p o ys zs : List ℕ) (to n : ℕ) → to ≡ length p → o ≡ p ++ drop to d → ys ≡ zs → length zs ≡ n
-    → put_mid to (to + n - to) o ys ≡ (p ++ zs) ++ drop (to + n) d
-laid_more d p o ys zs to n t e y l =
-    let k : to + n - to ≡ n = omega arith in
-    rw (k, e, y, take_at p (drop to d) to (sym t), drop_at p (drop to d) to (sym t), drop-drop, append_assoc)
+pub laid_more : (d p o zs : List ℕ) (to n : ℕ) → to ≡ length p → o ≡ p ++ drop to d → length zs ≡ n → to + n ≤ length d
+    → sets o to zs ≡ (p ++ zs) ++ drop (to + n) d
+laid_more d p o zs to n t e l h =
+    let m : length o ≡ length d = rw (e, length-append, length-drop) (omega arith) in
+    let before = take_at p (drop to d) to (sym t) in
+    let behind = drop_at p (drop to d) to (sym t) in
+    sets-eq zs o to (omega arith) ∙ rw (l, e, before, ← drop-drop, behind, drop-drop, append_assoc)
+
+-- over all words
+pub laid_over : (s o : List ℕ) → length o ≡ length s → sets s 0 o ≡ o
+laid_over s o e = sets_full o s (omega arith) ∙ take_all (length s) o (omega arith)
 
 -- copied to the front of zeros
 pub new_is : (s : List ℕ) (ns : List O.Node) (n : ℕ) → length s ≡ n

@@ -13,6 +13,7 @@ ghost use Rattle.convert.specs.Convert.{EachInside, Few, runs_of, new_node, old_
 ghost use Rattle.convert.specs.Promised.{ToNew, ToOld};
 
 use fit::unfit;
+use moves::copy_in;
 use placed::fine::helds;
 use placed::{Node as PlacedNode, Pending, State as PlacedState};
 use state::State;
@@ -42,7 +43,7 @@ fn lay(nodes: [PlacedNode; NODES], store: &[u16], out: &mut [u16])
     for n in nodes {
         let place = n.list.place;
         let words = n.list.words.0 as usize;
-        out[to..to + words].copy_from_slice(&store[place..place + words]);
+        copy_in(&store[place..place + words], out, to);
         to += words;
     }
 }
@@ -100,7 +101,7 @@ pub fn to_new(s: PlacedState, store: &mut [u16], plaques: &[u8]) -> Packed
     let nodes = s.nodes;
     let mut out = [0u16; Words::STORE.0 as usize];
     lay(nodes, store, &mut out);
-    store.copy_from_slice(&out);
+    copy_in(&out, store, 0);
     let state = State {
         name,
         readers,

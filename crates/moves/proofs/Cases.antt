@@ -4,6 +4,7 @@
 use Prim.Native.Nat.{ℕ}
 use mathlib.Core.Path.{◌≡◌, refl}
 use mathlib.Core.List.{List, [], ◌∷◌}
+use lib.Seq.{sets}
 use Rattle.moves.specs.Moved.{inserted, removed}
 
 abbrev small : List ℕ
@@ -40,3 +41,6 @@ take_middle = refl
 take_end : removed small 5 7 2 ≡ 3 ∷ 7 ∷ 7 ∷ 2 ∷ 8 ∷ 0 ∷ 0 ∷ 0 ∷ 0 ∷ 0 ∷ []
 unfolding removed
 take_end = refl
+
+copied : sets small 2 (1 ∷ 1 ∷ []) ≡ 3 ∷ 7 ∷ 1 ∷ 1 ∷ 8 ∷ 2 ∷ 9 ∷ 0 ∷ 0 ∷ 0 ∷ []
+copied = refl

@@ -1,8 +1,17 @@
-// Words put in and taken out of a slice: those behind the place move up or down within it. Nothing here knows what they mean.
+// Words moved: copied from elsewhere, moved up or down within their slice, and made 0. Nothing here knows what they mean.
 #![tactic(auto)]
 
-ghost use Rattle.std.specs.Prelude.{◌≡◌, ◌+◌, ◌≤◌, length};
+ghost use Rattle.std.specs.Prelude.{◌≡◌, ◌+◌, ◌≤◌, length, replicate};
+ghost use Rattle.std.proofs.lemmas.List.Edits.{sets};
 ghost use Rattle.moves.specs.Moved.{inserted, removed};
+
+// Copies all of src into dst from a place on.
+pub fn copy_in(src: &[u16], dst: &mut [u16], to: usize)
+    requires { to + length src.now ≤ length dst.old }
+    ensures { dst.new ≡ sets dst.old to src.now }
+{
+    dst[to..to + src.len()].copy_from_slice(src);
+}
 
 // Puts words in at a place. Those from there to `end` move up, over what lay behind them.
 pub fn insert(words: &mut [u16], at: usize, end: usize, new: &[u16])
@@ -21,4 +30,11 @@ pub fn remove(words: &mut [u16], at: usize, end: usize, count: usize)
 {
     words.copy_within(at + count..end, at);
     words[end - count..end].fill(0);
+}
+
+// Makes every word 0.
+pub fn wipe(words: &mut [u16])
+    ensures { words.new ≡ replicate (length words.old) 0 }
+{
+    words.fill(0);
 }

@@ -19,6 +19,14 @@ use state::node::Node;
 use state::reader::Reader;
 use units::{Bytes, NODES, READERS, Words};
 
+// Copies all of src into dst from a place on.
+pub fn copy_bytes(src: &[u8], dst: &mut [u8], to: usize)
+    requires { to + length src.now ≤ length dst.old }
+    ensures { dst.new ≡ paste dst.old to src.now (length src.now) }
+{
+    dst[to..to + src.len()].copy_from_slice(src);
+}
+
 // A plaque leaves, on the parts of its reader.
 pub fn left(own: Node, x: Reader, held: [Words; NODES]) -> Seated
     ensures { (n : ℕ) (store memory : List ℕ) → is_reader full n ≡ true
@@ -60,8 +68,7 @@ pub fn brought(
     let i = (node - 1) as usize;
     let id = <[u8; 8]>::try_from(id).unwrap();
     let y = x.arrived(id, Bytes(bytes.len() as u16));
-    let start = i * Bytes::REGION.0 as usize;
-    plaques[start..start + bytes.len()].copy_from_slice(bytes);
+    copy_bytes(bytes, plaques, i * Bytes::REGION.0 as usize);
     Seated {
         node: own,
         held,
@@ -121,8 +128,7 @@ pub fn arrive(
     let x = s.readers[i];
     let id = <[u8; 8]>::try_from(id).unwrap();
     let y = x.arrived(id, Bytes(bytes.len() as u16));
-    let start = i * Bytes::REGION.0 as usize;
-    plaques[start..start + bytes.len()].copy_from_slice(bytes);
+    copy_bytes(bytes, plaques, i * Bytes::REGION.0 as usize);
     let mut t = s;
     t.readers[i] = y;
     Called {

@@ -19,19 +19,26 @@ loop-n-init c = search rules
 pub overflow_add-to : goal.overflow_add-to
 overflow_add-to c = let h = here (goal.at.overflow_add-to c).In-loop-n in record { fits = omega arith }
 
-pub offset_bounds-out-to : goal.offset_bounds-out-to
-offset_bounds-out-to c = let h = here (goal.at.offset_bounds-out-to c).In-loop-n in record { fits = omega arith }
+pub offset_bounds-store-place : goal.offset_bounds-store-place
+offset_bounds-store-place c = let h = here (goal.at.offset_bounds-store-place c).In-loop-n in record { fits = omega arith }
 
-pub slice_bounds-copy_from_slice-end : goal.slice_bounds-copy_from_slice-end
-slice_bounds-copy_from_slice-end c = let h = here (goal.at.slice_bounds-copy_from_slice-end c).In-loop-n in omega arith
+pub slice_bounds-copy_in-end : goal.slice_bounds-copy_in-end
+slice_bounds-copy_in-end c = let h = here (goal.at.slice_bounds-copy_in-end c).In-loop-n in omega arith
+
+pub copy_in-requires : goal.copy_in-requires
+copy_in-requires c =
+    let h = here (goal.at.copy_in-requires c).In-loop-n in
+    let list = (get_or c.args.nodes c.loop-n.n-index blank).list in
+    let e : list.place + list.words.0 - list.place ≡ list.words.0 = omega arith in
+    rw (e, h.wide) (omega arith)
 
 pub loop-n-preserved : goal.loop-n-preserved
 loop-n-preserved c =
     let h = here (goal.at.loop-n-preserved c).In-loop-n in
     let list = (get_or c.args.nodes c.loop-n.n-index blank).list in
     let e : list.place + list.words.0 - list.place ≡ list.words.0 = omega arith in
-    let w = laid_more c.args.out.now _ _ _ _ _ _ c.loop-n.invariant.place c.loop-n.invariant.words (rw e at c.copy_from_slice.ensures.after) h.wide in
-    record { place = h.next; words = rw h.more w }
+    let w = laid_more c.args.out.now _ _ _ _ _ c.loop-n.invariant.place c.loop-n.invariant.words h.wide h.fits in
+    record { place = h.next; words = rw h.more (rw e at c.copy_in.ensures ∙ w) }
 
 pub returns : goal.returns
 returns c =

@@ -10,7 +10,7 @@ use Rattle.placed.proofs.Parts.{Parts, parts}
 use Rattle.placed.proofs.InOrder.{each_inside, each_least}
 use Rattle.convert.specs.Convert.{runs_of, new_store}
 use Rattle.convert.proofs.To.{runs_fit}
-use Rattle.convert.proofs.Loops.{new_is, helds_are}
+use Rattle.convert.proofs.Loops.{laid_over, new_is, helds_are}
 use Rattle.convert.proofs.to_new.Goals as goal
 
 pub returns-then-refusal-ne0 : goal.returns-then-refusal-ne0
@@ -32,8 +32,8 @@ lay-requires c =
     let p = known in
     ((λ k h. each_inside full c.args.store.now c.args.s.nodes p.lists k h), room)
 
-pub copy_from_slice-requires : goal.copy_from_slice-requires
-copy_from_slice-requires c =
+pub copy_in-requires : goal.copy_in-requires
+copy_in-requires c =
     let fits : unfit full ((machine c.args.s c.args.store.now c.args.plaques.now)) ≡ 0 = sym c.unfit-refusal.ensures ∙ c.if-refusal-ne0.false in
     let known : Parts full ((machine c.args.s c.args.store.now c.args.plaques.now)) = parts full ((machine c.args.s c.args.store.now c.args.plaques.now)) (fits) in
     let w : length c.lay.new.out ≡ 4096 = search rules in
@@ -58,8 +58,9 @@ returns c =
     let known : Parts full ((machine c.args.s c.args.store.now c.args.plaques.now)) = parts full ((machine c.args.s c.args.store.now c.args.plaques.now)) (fits) in
     let st = c.args.store.now in
     let ns = c.args.s.nodes in
-    let w : c.copy_from_slice.new.self ≡ new_store st ns =
-    c.copy_from_slice.ensures.after ∙ c.lay.ensures ∙ new_is st ns _ known.store in
+    let wide : length c.lay.new.out ≡ 4096 = search rules in
+    let w : c.copy_in.new.dst ≡ new_store st ns =
+    c.copy_in.ensures ∙ laid_over st _ (wide ∙ sym known.store) ∙ c.lay.ensures ∙ new_is st ns _ known.store in
     record {
       number = sym (fits);
       refused = λ d. absurd (d (fits));

@@ -1,6 +1,5 @@
 -- No reader, or an ID or bytes past their limits: refused; else the reader is stored with its plaque, and the bytes stand in its region.
 use Rattle.units.proofs.Common.{◌∙◌, ap, true, List, ℕ, ◌*◌, arith, length, get_or, paste, le-leb, lt-leb, yes_and, no_and}
-use Rattle.units.proofs.Slices.{put_mid-copied}
 use Rattle.meaning.proofs.Terms.{full, arrive}
 use Rattle.promise.specs.Obeyed.{said_of}
 use Rattle.promise.proofs.Parts.{parts}
@@ -40,9 +39,8 @@ returns-then-bytes c =
 pub unwrap-id-requires : goal.unwrap-id-requires
 unwrap-id-requires c = c.try_from.ensures.0 c.if-id.false
 
-pub slice_bounds-copy_from_slice-end : goal.slice_bounds-copy_from_slice-end
-slice_bounds-copy_from_slice-end c =
-    omega (arith, (parts full _ c.requires).memory, c.if-i-ge-READERS.false, c.if-bytes.false)
+pub copy_bytes-requires : goal.copy_bytes-requires
+copy_bytes-requires c = omega (arith, (parts full _ c.requires).memory, c.if-i-ge-READERS.false, c.if-bytes.false)
 
 pub returns : goal.returns
 unfolding said_of
@@ -54,5 +52,5 @@ returns c =
     (rw c.unwrap-id.ensures at c.try_from.ensures.1).same)
     (stepped ((arrive c.args.node c.args.id.now c.args.bytes.now)) c.requires (arrived_0 full _ _ c.requires _ _ p.0 c.if-id.false
     (yes_and (le-leb 1 _ c.if-bytes-lt1.false) ∙ le-leb _ _ c.if-bytes.false) _ (reader_there _ _ _ c.requires p.0 p.1) _
-    (put_mid-copied _ c.args.plaques.now _ c.args.bytes.now c.copy_from_slice.ensures.after
+    (c.copy_bytes.ensures
     ∙ ap (λ (k : ℕ). paste c.args.plaques.now (k * full.region) c.args.bytes.now (length c.args.bytes.now)) p.1)))

@@ -1,7 +1,6 @@
 -- `brought` hands back the reader with the plaque, whose bytes stand at the front of the reader's region (laws of `Placing`).
 -- Assumes nothing.
 use Rattle.units.proofs.Common.{◌∙◌, ap, true, List, ℕ, arith, length}
-use Rattle.units.proofs.Slices.{put_mid-copied}
 use Rattle.meaning.proofs.Terms.{full}
 use Rattle.promise.proofs.Tables.{reader_range}
 use Rattle.promise.proofs.Readers.{with_plaque}
@@ -27,10 +26,10 @@ overflow_cast-bytes c =
     let l = here (goal.at.overflow_cast-bytes c).Start in
     omega arith
 
-pub slice_bounds-copy_from_slice-end : goal.slice_bounds-copy_from_slice-end
-slice_bounds-copy_from_slice-end c =
-    let l = here (goal.at.slice_bounds-copy_from_slice-end c).Start in
-    omega (arith, reader_range full c.args.node l.reader, c.requires.1)
+pub copy_bytes-requires : goal.copy_bytes-requires
+copy_bytes-requires c =
+    let l = here (goal.at.copy_bytes-requires c).Start in
+    omega (arith, reader_range full c.args.node l.reader, l.few, c.requires.1)
 
 pub returns : goal.returns
 returns c store =
@@ -42,4 +41,4 @@ returns c store =
       id = k;
       length = record { 0 = length a.bytes.now };
     })) id)
-    _ (put_mid-copied _ a.plaques.now _ a.bytes.now c.copy_from_slice.ensures.after)
+    _ c.copy_bytes.ensures
