@@ -1,5 +1,5 @@
 -- A machine in order has its lists laid without gaps by `lay`, and its nodes by `without_places`; one that is not is refused.
-use Rattle.units.proofs.Common.{sym, ◌∙◌, ◌≡◌, ap, List, ℕ, ◌≤◌, arith, length, replicate, rules}
+use Rattle.units.proofs.Common.{sym, ◌∙◌, ◌≡◌, ap, List, ℕ, ◌≤◌, arith, length, length-take, replicate, rules}
 use Rattle.units.specs.declared.Words.{Words}
 use Rattle.meaning.proofs.Terms.{full}
 use Rattle.machine.specs.Machine as N
@@ -37,7 +37,7 @@ copy_in-requires c =
     let fits : unfit full ((machine c.args.s c.args.store.now c.args.plaques.now)) ≡ 0 = sym c.unfit-refusal.ensures ∙ c.if-refusal-ne0.false in
     let known : Parts full ((machine c.args.s c.args.store.now c.args.plaques.now)) = parts full ((machine c.args.s c.args.store.now c.args.plaques.now)) (fits) in
     let w : length c.lay.new.out ≡ 4096 = search rules in
-    omega (arith, (known).store)
+    simp (length-take, w) (omega (arith, known.store))
 
 pub without_places-requires : goal.without_places-requires
 without_places-requires c =
