@@ -6,11 +6,15 @@ ghost use Rattle.std.proofs.lemmas.List.Edits.{sets};
 ghost use Rattle.moves.specs.Moved.{inserted, removed};
 
 // Copies all of src into dst from a place on.
+// Kept: a loop. Where the compiler cannot tell that two slices lie apart, it makes a call of `memmove` of `copy_from_slice`: a name that the
+// archive for C did not want from outside before.
 pub fn copy_in(src: &[u16], dst: &mut [u16], to: usize)
     requires { to + length src.now ≤ length dst.old }
     ensures { dst.new ≡ sets dst.old to src.now }
 {
-    dst[to..to + src.len()].copy_from_slice(src);
+    for i in 0..src.len() {
+        dst[to + i] = src[i];
+    }
 }
 
 // Puts words in at a place. Those from there to `end` move up, over what lay behind them.
@@ -18,9 +22,8 @@ pub fn insert(words: &mut [u16], at: usize, end: usize, new: &[u16])
     requires { (at ≤ end) × (end + length new.now ≤ length words.old) }
     ensures { words.new ≡ inserted words.old at end new.now }
 {
-    let behind = at + new.len();
-    words.copy_within(at..end, behind);
-    words[at..behind].copy_from_slice(new);
+    words.copy_within(at..end, at + new.len());
+    copy_in(new, words, at);
 }
 
 // Takes so many words out at a place. Those behind them, to `end`, move down, and zeros come in behind.
