@@ -14,6 +14,12 @@ use Rattle.store.specs.declared.Broom.{Broom}
 use Rattle.store.specs.declared.Broom.TheVariants as B
 use Rattle.store.proofs.Promised.{sum_set}
 
+-- the arm `_` beside Broom::Nothing
+pub sweeping : (P : Broom → Type 0) (z : Broom) → (z ≡ B.Nothing → ⊥) → P B.Clear → P B.Reset → P z
+sweeping P B.Nothing e c r = absurd (e refl)
+sweeping P B.Clear e c r = c
+sweeping P B.Reset e c r = r
+
 -- ---- swept words
 pub swept_long : (z : Broom) (hs : List Words) → length (swept_words z hs) ≡ length hs
 unfolding swept_words
