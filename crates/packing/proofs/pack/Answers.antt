@@ -20,14 +20,19 @@ pair_at (x ∷ []) (suc k) i h n = absurd (omega arith)
 pair_at (x ∷ y ∷ bs) (suc k) zero h n = refl
 pair_at (x ∷ y ∷ bs) (suc k) (suc i) h n = pair_at bs k i (omega arith) (omega arith)
 
+-- whatever the code writes for the pair's place
+pair_by : {x : ℕ} {ps : List (List ℕ)} (bs : List ℕ) (k j i : ℕ) → x ≡ from_be_bytes w16 (get_or ps j [])
+    → ps ≡ first_chunks 2 k bs → j ≡ i → i < k → k + k ≤ length bs → x ≡ get_or (packed bs) i 0
+pair_by bs k j i w f e h n = w ∙ rw (f, e) (pair_at bs k i h n)
+
 pub loop-i-preserved : goal.loop-i-preserved
 loop-i-preserved c =
     let a = c.args in
     let i = c.loop-i.i in
     let e = length_packed a.bytes.now in
     put_next a.out.now (packed a.bytes.now) i (i + 1) c.loop-i.invariant
-    (c.from_be_bytes.ensures ∙ ap (λ ps. from_be_bytes w16 (get_or ps i [])) c.as_chunks.ensures.front
-    ∙ pair_at a.bytes.now (length a.bytes.now / 2) i (omega arith) (omega arith)) refl (omega arith) (omega arith)
+    (pair_by a.bytes.now (length a.bytes.now / 2) _ i c.from_be_bytes.ensures c.as_chunks.ensures.front (omega arith) (omega arith)
+    (omega arith)) refl (omega arith) (omega arith)
 
 -- the odd byte's word
 pub returns-then-n-out : goal.returns-then-n-out
