@@ -8,23 +8,28 @@ use Rattle.guide.specs.declared.line.Line.{Line}
 unfoldable pub fitting : ℕ → ℕ → ℕ → List ℕ → List ℕ
 fitting size at room text = cond (leb (at + room) size) text []
 
--- a line goes on from its place to another: only what stands from that place up to the other may differ, and the other is no further
--- than the line's end, unless the place was
-pub record GoesOn (old new : Line) : Type 0 where
-  pub size : length new.bytes ≡ length old.bytes
-  pub before : take old.at new.bytes ≡ take old.at old.bytes
-  pub past : drop new.at new.bytes ≡ drop new.at old.bytes
-  pub forth : old.at ≤ new.at
-  pub within : old.at ≤ length old.bytes → new.at ≤ length old.bytes
+-- a line goes on from a place to r: only what stands from that place up to r may differ, and r is no further than the line's end,
+-- unless the place was
+pub record GoesOn (old : List ℕ) (at : ℕ) (new : List ℕ) (r : ℕ) : Type 0 where
+  pub size : length new ≡ length old
+  pub before : take at new ≡ take at old
+  pub past : drop r new ≡ drop r old
+  pub forth : at ≤ r
+  pub within : at ≤ length old → r ≤ length old
+
+-- a line goes on from its place to another, in the bytes that were lent for it
+pub record Onward (old new : Line) : Type 0 where
+  pub lent : new.bytes.ghost_name ≡ old.bytes.ghost_name
+  pub on : GoesOn old.bytes.now old.at new.bytes.now new.at
 
 -- new is old with the text written at its place
 pub record Says (old : Line) (text : List ℕ) (new : Line) : Type 0 where
-  pub exact : Put old.bytes old.at text new.bytes new.at
-  pub on : GoesOn old new
+  pub exact : Put old.bytes.now old.at text new.bytes.now new.at
+  pub on : Onward old new
 
 -- a text that asks for so much room
 abbrev pub Said : Line → ℕ → List ℕ → Line → Type 0
-Said old room text new = Says old (fitting (length old.bytes) old.at room text) new
+Said old room text new = Says old (fitting (length old.bytes.now) old.at room text) new
 
 -- a label, then a text that asks for so much room, each where it fits
 unfoldable pub labelling : ℕ → ℕ → List ℕ → ℕ → List ℕ → List ℕ
@@ -33,7 +38,7 @@ labelling size at label room text =
     ++ fitting size (at + length (fitting size at (length label) label)) room text
 
 abbrev pub Labelled : Line → List ℕ → ℕ → List ℕ → Line → Type 0
-Labelled old label room text new = Says old (labelling (length old.bytes) old.at label room text) new
+Labelled old label room text new = Says old (labelling (length old.bytes.now) old.at label room text) new
 
 -- the last two digits of a number
 unfoldable pub two_of : ℕ → List ℕ

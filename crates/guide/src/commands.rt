@@ -1,5 +1,5 @@
 // What a command packet says, as the worked packets put it.
-ghost use Rattle.guide.specs.Say.{GoesOn};
+ghost use Rattle.guide.specs.Say.{GoesOn, Onward};
 
 use crate::again::same_command;
 use crate::line::Line;
@@ -44,7 +44,7 @@ fn name_of(kind: Kind) -> &'static str {
 
 // A word is shown where the table says that the command uses it.
 fn say_used(line: &mut Line, label: &str, limits: Limits, n: u16)
-    ensures { GoesOn line.old line.new }
+    ensures { Onward line.old line.new }
 {
     if limits.high != 0 {
         line.say_as(label, Decimal(n as usize));
@@ -52,7 +52,7 @@ fn say_used(line: &mut Line, label: &str, limits: Limits, n: u16)
 }
 
 fn say_command(line: &mut Line, m: Command)
-    ensures { GoesOn line.old line.new }
+    ensures { Onward line.old line.new }
 {
     let row = row_of(m.command);
     let word4 = match row.kind {
@@ -68,7 +68,7 @@ fn say_command(line: &mut Line, m: Command)
 
 // What an accepted packet says, and whether it is the same when written again.
 fn say_accepted(line: &mut Line, words: &[u16], form: Form, m: Command, bytes: &[u8])
-    ensures { GoesOn line.old line.new }
+    ensures { Onward line.old line.new }
 {
     line.say("ok ");
     say_command(line, m);
@@ -79,16 +79,18 @@ fn say_accepted(line: &mut Line, words: &[u16], form: Form, m: Command, bytes: &
 }
 
 // Kept: beside `say_of_response`, whose reader, data and words are others: one function for both takes a trait of four functions.
-pub fn say_of_command(line: &mut Line, words: &[u16], form: Form)
-    ensures { GoesOn line.old line.new }
+pub fn say_of_command(out: &mut [u8], at: usize, words: &[u16], form: Form) -> usize
+    ensures { GoesOn out.old at out.new result }
 {
+    let mut line = Line { bytes: out, at };
     match read_command(words, form) {
         CommandRead::Refused(n) => line.say_refused(n),
         CommandRead::Accepted(m) => {
             let mut bytes = [0u8; 256];
             unpack(command_data(words, form), &mut bytes);
             let n = carried(row_of(m.command), m).0 as usize;
-            say_accepted(line, words, form, m, part(&bytes, 0, n));
+            say_accepted(&mut line, words, form, m, part(&bytes, 0, n));
         }
     }
+    line.at
 }

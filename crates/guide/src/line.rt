@@ -1,39 +1,30 @@
-// A line as it is written: its bytes, and the place where it goes on. A piece that no longer fits is left out.
-ghost use Rattle.std.specs.Prelude.{◌≡◌, ◌≤◌, length, take};
+// A line as it is written: the bytes lent for it, and the place where it goes on, which may be past them. A piece that no longer fits is
+// left out.
+ghost use Rattle.std.specs.Prelude.{◌≡◌, length, take};
 
 use crate::pieces::{Decimal, Piece};
 
 #[derive(Drop)]
-pub struct Line {
-    bytes: [u8; 1024],
-    at: usize,
-    ghost inside: { at ≤ 1024 },
+pub struct Line<'a> {
+    pub bytes: &'a mut [u8],
+    pub at: usize,
 }
 
-impl Line {
-    ghost use Rattle.guide.specs.Say.{GoesOn, Said, Labelled, same_text};
-
-    pub fn new() -> Line
-        ensures { result.at ≡ 0 }
-    {
-        Line {
-            bytes: [0; 1024],
-            at: 0,
-        }
-    }
+impl Line<'_> {
+    ghost use Rattle.guide.specs.Say.{Onward, Said, Labelled, same_text};
 
     // What is written so far.
     pub fn text(&self) -> &[u8]
-        ensures { result.now ≡ take self.now.at self.now.bytes }
+        ensures { result.now ≡ take self.now.at self.now.bytes.now }
     {
-        &self.bytes[..self.at]
+        self.bytes.get(..self.at).unwrap_or(self.bytes)
     }
 
     pub fn say<P: Piece + Drop>(&mut self, piece: P)
         ensures { Said self.old (P.room piece) (P.text piece) self.new }
     {
-        if piece.fits(self.bytes.len() - self.at) {
-            self.at = piece.put(&mut self.bytes, self.at);
+        if self.at <= self.bytes.len() && piece.fits(self.bytes.len() - self.at) {
+            self.at = piece.put(self.bytes, self.at);
         }
     }
 
@@ -52,7 +43,7 @@ impl Line {
     }
 
     pub fn say_refused(&mut self, refusal: u8)
-        ensures { GoesOn self.old self.new }
+        ensures { Onward self.old self.new }
     {
         self.say_as("refused ", Decimal(refusal as usize));
         self.say("\n");

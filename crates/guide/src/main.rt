@@ -24,8 +24,8 @@ fn form_at(line: &[u8], at: usize) -> Form {
     Form::Register
 }
 
-// What is said of the worked packet that a line has.
-fn said_of(line: &[u8]) -> Line {
+// The line for one worked packet: what is said of the packet that a line of the file has.
+fn say_line(said: &mut Line, line: &[u8]) {
     let direction = after(line, 0, b'|');
     let form = after(line, direction, b'|');
     let packet = after(line, form, b'|');
@@ -33,21 +33,25 @@ fn said_of(line: &[u8]) -> Line {
     let mut words = [0u16; 256];
     let n = words_of(part(line, after(line, packet, b' '), end), &mut words);
     let read_in = form_at(line, after(line, form, b' '));
-    let mut said = Line::new();
     said.say(part(line, 0, after(line, 0, b' ')));
-    if starts(line, after(line, direction, b' '), b'c') {
-        say_of_command(&mut said, &words[..n], read_in);
+    said.at = if starts(line, after(line, direction, b' '), b'c') {
+        say_of_command(said.bytes, said.at, &words[..n], read_in)
     } else {
-        say_of_response(&mut said, &words[..n], read_in);
-    }
-    said
+        say_of_response(said.bytes, said.at, &words[..n], read_in)
+    };
 }
 
 fn play_line(rt: HostRuntime, line: &[u8]) {
     if let [b'#' | b'\n', ..] = line {
         return;
     }
-    say(rt.stdout(), said_of(line).text());
+    let mut out = [0u8; 1024];
+    let mut said = Line {
+        bytes: &mut out,
+        at: 0,
+    };
+    say_line(&mut said, line);
+    say(rt.stdout(), said.text());
 }
 
 fn play(rt: HostRuntime, file: &[u8]) {

@@ -1,5 +1,5 @@
 // What a response packet says, as the worked packets put it.
-ghost use Rattle.guide.specs.Say.{GoesOn};
+ghost use Rattle.guide.specs.Say.{GoesOn, Onward};
 
 use crate::again::same_response;
 use crate::line::Line;
@@ -16,7 +16,7 @@ const MONTHS: [&str; 13] = [
 ];
 
 fn say_stamp(line: &mut Line, t: Stamp)
-    ensures { GoesOn line.old line.new }
+    ensures { Onward line.old line.new }
 {
     let month = MONTHS.get(t.month as usize).copied().unwrap_or("");
     line.say_as(" stamp=", Decimal(t.day as usize));
@@ -27,7 +27,7 @@ fn say_stamp(line: &mut Line, t: Stamp)
 }
 
 fn say_origin(line: &mut Line, r: Response)
-    ensures { GoesOn line.old line.new }
+    ensures { Onward line.old line.new }
 {
     line.say_as(" node=", Decimal(r.node as usize));
     line.say_as(" count=", Decimal(r.count as usize));
@@ -35,7 +35,7 @@ fn say_origin(line: &mut Line, r: Response)
 }
 
 fn say_error(line: &mut Line, r: Response, bytes: &[u8])
-    ensures { GoesOn line.old line.new }
+    ensures { Onward line.old line.new }
 {
     line.say_as("error info=", Hex(&[r.echo]));
     say_origin(line, r);
@@ -43,7 +43,7 @@ fn say_error(line: &mut Line, r: Response, bytes: &[u8])
 }
 
 fn say_answer(line: &mut Line, r: Response, bytes: &[u8])
-    ensures { GoesOn line.old line.new }
+    ensures { Onward line.old line.new }
 {
     line.say_as("echo=", Hex(&[r.echo]));
     say_origin(line, r);
@@ -55,7 +55,7 @@ fn say_answer(line: &mut Line, r: Response, bytes: &[u8])
 
 // What an accepted packet says, and whether it is the same when written again.
 fn say_accepted(line: &mut Line, words: &[u16], form: Form, r: Response, bytes: &[u8])
-    ensures { GoesOn line.old line.new }
+    ensures { Onward line.old line.new }
 {
     line.say("ok ");
     if r.error {
@@ -66,15 +66,23 @@ fn say_accepted(line: &mut Line, words: &[u16], form: Form, r: Response, bytes: 
     line.say_same(same_response(words, form, r, bytes));
 }
 
-pub fn say_of_response(line: &mut Line, words: &[u16], form: Form)
-    ensures { GoesOn line.old line.new }
+pub fn say_of_response(out: &mut [u8], at: usize, words: &[u16], form: Form) -> usize
+    ensures { GoesOn out.old at out.new result }
 {
+    let mut line = Line { bytes: out, at };
     match judge_response(words, form) {
         ResponseRead::Refused(n) => line.say_refused(n),
         ResponseRead::Accepted(r, amount) => {
             let mut bytes = [0u8; 256];
             unpack(response_data(words, form), &mut bytes);
-            say_accepted(line, words, form, r, part(&bytes, 0, amount.0 as usize));
+            say_accepted(
+                &mut line,
+                words,
+                form,
+                r,
+                part(&bytes, 0, amount.0 as usize),
+            );
         }
     }
+    line.at
 }

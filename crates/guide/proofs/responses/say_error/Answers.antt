@@ -1,8 +1,8 @@
 -- What is said in turn goes on from place to place.
 -- Assumes nothing.
 use Rattle.units.proofs.Common.{rules}
-use Rattle.guide.proofs.Saying.{goes_then}
+use Rattle.guide.proofs.Saying.{onward_then}
 use Rattle.guide.proofs.responses.say_error.Goals as goal
 
 pub returns : goal.returns
-returns c = search (rules, goes_then)
+returns c = search (rules, onward_then)
