@@ -1,4 +1,4 @@
--- What a whole record says in numbers, and what an answer of the reader says of the bytes.
+-- What a whole record says in numbers, and back; and what an answer of the reader says of the bytes.
 -- Assumes nothing.
 use Rattle.units.proofs.Common.{◌≡◌, true, false, List, ℕ, ◌≤◌, ◌+◌, ◌*◌, arith, length}
 use Rattle.std.proofs.Common.{Some, None}
@@ -13,6 +13,10 @@ use Rattle.runfile.specs.declared.PlaqueRecord.{PlaqueRecord}
 pub count_there : (bs : List ℕ) → count_whole bs ≡ true → 2 ≤ length bs
 unfolding count_whole
 count_there bs e = grind (arith, nat_tests)
+
+pub there_count : (bs : List ℕ) → 2 ≤ length bs → count_whole bs ≡ true
+unfolding count_whole
+there_count bs h = grind (arith, nat_tests)
 
 pub record CountRead (bs : List ℕ) (n : ℕ) : Type 0 where
   pub said : n ≡ count_said bs
@@ -39,6 +43,10 @@ pub plaque_facts : (b : Bench) (bs : List ℕ) → plaque_whole b bs ≡ true �
 unfolding plaque_whole
 plaque_facts b bs e = grind (arith, nat_tests)
 
+pub facts_plaque : (b : Bench) (bs : List ℕ) → PlaqueFacts b bs (plaque_node bs) (plaque_length bs) → plaque_whole b bs ≡ true
+unfolding plaque_whole
+facts_plaque b bs f = grind (arith, nat_tests)
+
 pub record PlaqueRead (b : Bench) (bs : List ℕ) (n l : ℕ) : Type 0 where
   pub node : n ≡ plaque_node bs
   pub size : l ≡ plaque_length bs
@@ -62,6 +70,10 @@ pub record CommandFacts (bs : List ℕ) (n : ℕ) : Type 0 where
 pub command_facts : (bs : List ℕ) → command_whole bs ≡ true → CommandFacts bs (command_length bs)
 unfolding command_whole
 command_facts bs e = grind (arith, nat_tests)
+
+pub facts_command : (bs : List ℕ) → CommandFacts bs (command_length bs) → command_whole bs ≡ true
+unfolding command_whole
+facts_command bs f = grind (arith, nat_tests)
 
 pub record CommandRead (bs : List ℕ) (n : ℕ) : Type 0 where
   pub size : n ≡ command_length bs
