@@ -3,20 +3,21 @@
 -- Assumes nothing.
 use native.Mathlib.Decide.{dec_le}
 use Rattle.units.proofs.Common.{sym, ◌∙◌, ◌≡◌, refl, ap, true, false, Bool, cond, ◌&&◌, List, [], ◌∷◌, ℕ, ◌≤◌, ◌-◌, ◌+◌, ◌<◌}
-use Rattle.units.proofs.Common.{◌*◌, ◌^◌, suc, zero-add, arith, length, drop, get_or, take, length-drop, get_or-drop, drop-drop, ltb, lt-ltb}
-use Rattle.units.proofs.Common.{ltb-true, leb, le-leb, leb-true, every, within, yes_cond, and_true, true≢false, drop_of_length-le, yes_and, no_and, eqb, eq-eqb, ne_eqb, lt-leb}
-use Rattle.std.proofs.Common.{Option, Some, None, slice_get}
-use Rattle.std.proofs.lemmas.Option.{get_or_from_slice_get}
+use Rattle.units.proofs.Common.{◌*◌, ◌^◌, arith, length, drop, get_or, take, length-drop, get_or-drop, drop-drop}
+use Rattle.units.proofs.Common.{leb, le-leb, every, true≢false, drop_of_length-le, yes_and, no_and, eqb, eq-eqb, ne_eqb, lt-leb}
+use Rattle.units.proofs.Common.{length-take, length-take-le, get_or-take}
+use Rattle.std.proofs.Common.{Some, None}
+use Rattle.std.specs.List.{AllWithin, HoldsAt}
 use Rattle.std.specs.Bool.{then_some}
 use Rattle.units.specs.declared.stamp.Stamp.{Stamp}
 use Rattle.dialog.specs.Fields.{is_digit, decimal_from, value_of, number_ok}
 use Rattle.dialog.specs.Spoken.{numbers_ok, a_stamp, a_node, field, number, stamp_from}
-use Rattle.dialog.proofs.FieldLaws.{both, nowise, and_end, in_range, is_within, ten_times, ten_digits, IsNumber, of_number, number_is, next, every_next, every_end, clash}
+use Rattle.dialog.proofs.FieldLaws.{nowise, in_range, ten_times, IsNumber, of_number, number_is, next, every_next, every_end}
 use Rattle.dialog.proofs.SpokenLaws.{numbers_enough, one_number, no_number, stamp_numbers}
 use Rattle.fields.specs.declared.Read.{Read}
-use Rattle.fields.specs.FieldsAt.{fields_from}
+use Rattle.fields.specs.FieldsAt.{fields_from, FieldAt}
 use Rattle.numbers.specs.NumbersAt.{number_in, number_at, node_at, stamp_of, stamp_at}
-use Rattle.fields.proofs.Places.{from_past, from_some, after_rest}
+use Rattle.fields.proofs.Places.{from_past, from_some, after_field, after_past, after_rest, to_blank, to_line_end, ends}
 
 -- ---- a field by itself
 module _ (most : ℕ) (f : List ℕ) where
@@ -66,15 +67,58 @@ no_field : (most : ℕ) → number_in most [] ≡ None
 unfolding number_in number_ok
 no_field most = refl
 
--- the first field, where there is one
-pub first_none : (most : ℕ) (fs : List (List ℕ)) → slice_get fs 0 ≡ None → number_in most (field fs 0) ≡ None
-first_none most [] e = no_field most
-first_none most (f ∷ fs) e = absurd (cc)
+too_long : (most : ℕ) (f : List ℕ) → 12 ≤ length f → number_in most f ≡ None
+too_long most f h = sym (not_number most f (λ n. omega (arith, n.short)))
 
-pub first_some : (most : ℕ) (fs : List (List ℕ)) (f : List ℕ) → slice_get fs 0 ≡ Some f → number_in most (field fs 0) ≡ number_in most f
-first_some most fs f e = ap (number_in most) (get_or_from_slice_get fs 0 f [] e)
+module _ (most : ℕ) (line : List ℕ) (at : ℕ) where
+  -- by where it ends, and where it is too long for a number
+  pub field_to : (r : ℕ) → FieldAt line at r → number_in most (take (r - at) (drop at line)) ≡ number_in most (field (fields_from line at) 0)
+  field_to r f = sym (ap (λ (fs : List (List ℕ)). number_in most (field fs 0)) f.first)
 
-pub ruleset first_field = (first_none, first_some)
+  pub field_long : 12 ≤ length (field (fields_from line at) 0) → number_in most (field (fields_from line at) 0) ≡ None
+  field_long = too_long most (field (fields_from line at) 0)
+
+  pub field_past : length line < at → number_in most (field (fields_from line at) 0) ≡ None
+  field_past h = ap (λ (fs : List (List ℕ)). number_in most (field fs 0)) (from_past line at h) ∙ no_field most
+
+pub ruleset field_there = (field_to, field_long, field_past, after_field, after_past)
+
+-- its end, looked for among the first k bytes
+abbrev pub clear : List ℕ → ℕ → Type 0
+clear bytes n = AllWithin (λ (c : ℕ). c ≡ 32 → ⊥) bytes 0 n
+
+module _ (line : List ℕ) (at k : ℕ) where
+  abbrev pub head : List ℕ
+  head = take k (drop at line)
+
+  none_in : (n : ℕ) → n ≤ k → clear head n → clear (drop at line) n
+  none_in n s f i d a b e = f i d a b (get_or-take k (drop at line) i d (omega arith) ∙ e)
+
+  pub end_in : (n : ℕ) → n < length head → HoldsAt (λ (c : ℕ). c ≡ 32) head n → clear head n → FieldAt line at (at + n)
+  end_in n h b f =
+      let s : (n < k) × (n < length (drop at line)) = omega (arith, h, length-take k (drop at line)) in
+      to_blank line at n s.1 (λ d. sym (get_or-take k (drop at line) n d s.0) ∙ b d) (none_in n (omega (arith, s.0)) f)
+
+  -- where it is not found
+  module _ (f : clear head (length head)) where
+    pub end_with : at ≤ length line → length (drop at line) ≤ k → FieldAt line at (length line)
+    end_with h l =
+        let z : length head ≡ length (drop at line) = omega (arith, l, length-take k (drop at line)) in
+        to_line_end line at h (none_in (length (drop at line)) l (rw (sym z) f))
+
+    pub end_behind : at + k ≤ length line → k ≤ length (field (fields_from line at) 0)
+    end_behind h =
+        let (r, e, b) = ends line (length line - at) at (omega arith) in
+        let there : r - at ≤ length (drop at line) = omega (arith, e.most, length-drop at line) in
+        let long : length (field (fields_from line at) 0) ≡ r - at =
+        ap (λ (fs : List (List ℕ)). length (field fs 0)) e.first ∙ length-take-le (r - at) (drop at line) there in
+        elim (dec_le k (r - at)) [
+          | yes g ↦ omega (arith, long, g)
+          | no g ↦
+              let z : at + (r - at) ≡ r = omega (arith, e.least) in
+              let s : r - at < length head = omega (arith, g, h, length-take k (drop at line), length-drop at line) in
+              absurd (f (r - at) 0 (omega arith) s (get_or-take k (drop at line) (r - at) 0 (omega arith) ∙ get_or-drop at line (r - at) 0 ∙ rw z (b (omega (arith, e.least)))))
+        ]
 
 module _ (line : List ℕ) where
   -- what is known of it

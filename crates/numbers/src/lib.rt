@@ -1,7 +1,9 @@
 // Numbers, nodes and stamps, one field after another.
 #![tactic(auto)]
 
-ghost use Rattle.std.specs.Prelude.{◌≡◌, ◌≤◌, IfSome};
+ghost use Rattle.std.specs.Prelude.{◌≡◌, ◌≤◌, IfSome, IfNone, length};
+ghost use Rattle.dialog.specs.Spoken.{field};
+ghost use Rattle.fields.specs.FieldsAt.{fields_from, FieldAt};
 ghost use Rattle.numbers.specs.NumbersAt.{number_in, number_at, node_at, stamp_at};
 
 use fields::{Read, read_field};
@@ -29,15 +31,41 @@ fn number_in(field: &[u8], most: u32) -> Option<u32>
     Some(value as u32)
 }
 
-#[tactic(auto, unfolding(crate::specs::NumbersAt::number_at), using(crate::proofs::Numbers::first_field))]
+// Where the field at a place ends, if that is among its first twelve bytes: a longer one is no number, and costs no more than these.
+fn near_end(line: &[u8], at: usize) -> Option<usize>
+    requires { at ≤ length line.now }
+    ensures end { IfSome result (FieldAt line.now at) }
+    ensures longer { IfNone result (12 ≤ length (field (fields_from line.now at) 0)) }
+{
+    let end = line.len().min(at + 12);
+    match line[at..end].iter().position(|c| *c == b' ') {
+        Some(n) => Some(at + n),
+        None if end == line.len() => Some(end),
+        None => None,
+    }
+}
+
+// Behind a field that is too long the next one is looked for by a computation of its own, which falls away where its place is not read.
+#[tactic(auto, unfolding(crate::specs::NumbersAt::number_at), using(crate::proofs::Numbers::field_there))]
 pub fn read_number(line: &[u8], at: usize, most: u32) -> Read<u32>
     ensures value { result ≡ number_at most line.now at }
     ensures within_limit { IfSome result.value (λ v. v ≤ most) }
 {
-    let field = read_field(line, at);
-    Read {
-        value: field.value.and_then(|digits| number_in(digits, most)),
-        next: field.next,
+    if line.len() < at {
+        return Read {
+            value: None,
+            next: at,
+        };
+    }
+    match near_end(line, at) {
+        Some(end) => Read {
+            value: number_in(&line[at..end], most),
+            next: end + 1,
+        },
+        None => Read {
+            value: None,
+            next: read_field(line, at).next,
+        },
     }
 }
 
