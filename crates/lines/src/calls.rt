@@ -1,5 +1,5 @@
-// The lines of the table: each from the place after its first field, and none where it is no call. No end is looked for of a field that
-// comes after one with which the line is no call, where the reader of the first does not need it: a line may be long.
+// The lines of the table: each from the place after its first field, and none where it is no call. Behind a field with which the line is no
+// call none is looked for: a line may be long.
 ghost use Rattle.std.specs.Prelude.{◌≡◌};
 ghost use Rattle.std.proofs.lemmas.List.Edits.{sets};
 ghost use Rattle.dialog.specs.Spoken.{command_said, check_said, arrive_said, leave_said, collect_said, acknowledge_said, store_said};
@@ -35,13 +35,12 @@ pub fn read_check(line: &[u8], at: usize) -> Option<Heard>
     ensures { result ≡ readable (check_said (fields_from line.now at)) }
 {
     let n = read_node(line, at);
+    let node = n.value?;
     let t = read_stamp(line, n.next);
+    let stamp = t.value?;
     let c = read_number(line, t.next, u32::MAX);
-    Some(Heard::Check {
-        node: n.value?,
-        stamp: t.value?,
-        clock: c.last(line)?,
-    })
+    let clock = c.last(line)?;
+    Some(Heard::Check { node, stamp, clock })
 }
 
 #[tactic(auto, using(crate::proofs::Found::arrivals))]
@@ -89,8 +88,9 @@ pub fn read_acknowledge(line: &[u8], at: usize) -> Option<Heard>
     ensures { result ≡ readable (acknowledge_said (fields_from line.now at)) }
 {
     let n = read_node(line, at);
+    let node = n.value?;
     let k = read_number(line, n.next, 65535);
-    Some(Heard::Acknowledge(n.value?, k.last(line)? as u16))
+    Some(Heard::Acknowledge(node, k.last(line)? as u16))
 }
 
 #[tactic(auto, using(crate::proofs::Found::store_reads))]
@@ -98,8 +98,8 @@ pub fn read_store(line: &[u8], at: usize) -> Option<Heard>
     ensures { result ≡ readable (store_said (fields_from line.now at)) }
 {
     let f = read_number(line, at, 4095);
-    let k = read_number(line, f.next, 128);
     let first = f.value? as u16;
+    let k = read_number(line, f.next, 128);
     let count = k.last(line)? as u16;
     // The numbers are within their limits, so that their sum fits.
     if count == 0 || Words::STORE.0 < first + count {
